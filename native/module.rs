@@ -3,14 +3,17 @@
 mod names;
 mod signature;
 
+use crate::proved::wgsl_core::ty::show::ShownType;
 use crate::proved::wgsl_module::module::check as checked;
 use crate::proved::wgsl_names::fault::Place;
 use crate::proved::wgsl_names::known::{Known, Outcome, Typed};
 use crate::proved::wgsl_reader::token::Token;
+use crate::proved::wgsl_syntax::rules::RuleSet;
+use crate::proved::wgsl_typing::count::with_counts;
 use crate::shim::always;
 use crate::shim::std::alloc::Global;
 use crate::ty::Type;
-use alloc::string::String;
+use alloc::string::{String, ToString};
 use alloc::vec::Vec;
 use core::ops::Range;
 
@@ -32,6 +35,7 @@ pub struct Checked {
     pub names: Vec<Name>,
     text: String,
     tokens: Vec<Token>,
+    counts: Vec<String>,
 }
 
 /// An expression.
@@ -76,6 +80,13 @@ impl Checked {
         let around = self.parts.iter().filter(|part| part.bytes.contains(&byte));
         around.min_by_key(|part| part.bytes.len())
     }
+
+    /// The spelling of a type of the module. A count that an override gives is as it is written: in the type it is a number from
+    /// 0x80000000 on.
+    pub fn spelling(&self, ty: &Type) -> String {
+        let shown = ShownType { ty, rules: RuleSet::Standard }.to_string();
+        always(with_counts(Global, &shown, &self.counts))
+    }
 }
 
 /// Checks a module.
@@ -96,7 +107,7 @@ pub fn check_in(host: &[(&str, Meaning)], text: &str) -> Checked {
     });
     let found = always(checked(Global, given.collect(), text));
     let names = names_of(host, text, &found);
-    let tokens = found.tokens;
+    let (tokens, counts) = (found.tokens, found.counts);
     let bytes = |place: Place| bytes_of(text, &tokens, place);
     let parts = found.parts.into_iter().map(|part| Part {
         bytes: bytes(part.place),
@@ -115,7 +126,7 @@ pub fn check_in(host: &[(&str, Meaning)], text: &str) -> Checked {
             .collect(),
     });
     let (parts, faults) = (parts.collect(), faults.collect());
-    Checked { parts, faults, names, text: text.into(), tokens }
+    Checked { parts, faults, names, text: text.into(), tokens, counts }
 }
 
 fn start_of(text: &str, tokens: &[Token], index: usize) -> usize {

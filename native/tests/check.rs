@@ -29,7 +29,7 @@ fn printed(words: &[&str], status: i32, input: &[u8]) -> String {
 #[test]
 fn faults_have_places_and_codes() {
     let messages = "\
-        -:1:15: error: no overload takes these operands\n\
+        -:1:15: error: no overload of `+` takes (u32, i32)\n\
         -:1:15: note: +(T, T) -> T, T: number: argument 2 is i32\n\
         -:1:15: note: +(T, vecN<T>) -> vecN<T>, T: number: argument 2 is i32\n\
         -:1:15: note: +(vecN<T>, T) -> vecN<T>, T: number: argument 1 is u32\n\
@@ -42,7 +42,7 @@ fn faults_have_places_and_codes() {
     assert_eq!(printed(&["--short", "-"], 1, FAULTY.as_bytes()), short.replace("error", "syntax"));
     let json = printed(&["--json", "-"], 1, FAULTY.as_bytes());
     let place = "\"line\":1,\"column\":15,\"utf16Column\":14,\"end\":{\"line\":1,\"column\":16,\"utf16Column\":15}";
-    let start = format!("{{\"file\":\"-\",\"faults\":[{{\"kind\":\"overload\",{place},\"message\":\"no overload takes these operands\",\"notes\":[{{{place},\"message\":\"+(T, T) -> T, T: number: argument 2 is i32\"}},{{");
+    let start = format!("{{\"file\":\"-\",\"faults\":[{{\"kind\":\"overload\",{place},\"message\":\"no overload of `+` takes (u32, i32)\",\"notes\":[{{{place},\"message\":\"+(T, T) -> T, T: number: argument 2 is i32\"}},{{");
     let next = "argument 1 is u32\"}]},{\"kind\":\"behaviour\",";
     assert!(json.starts_with(&start) && json.contains(next), "{json}");
     assert!(json.ends_with("found `{`\"}],\"types\":[]}\n"), "{json}");

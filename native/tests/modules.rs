@@ -36,6 +36,39 @@ fn modules_are_allowed_or_refused() {
     assert!(wrong.is_empty(), "{} of {count}: {wrong:#?}", wrong.len());
 }
 
+/// The rule, the line and the column of each fault, and its message.
+fn placed<'f>(text: &str, faults: &'f [Fault]) -> Vec<(String, &'f str)> {
+    let place = |fault: &'f Fault| {
+        let lines: Vec<&str> = text[..fault.bytes.start].split('\n').collect();
+        let column = lines[lines.len() - 1].len() + 1;
+        (format!("{} {}:{column}", fault.rule.word(), lines.len()), fault.message.as_str())
+    };
+    faults.iter().map(place).collect()
+}
+
+/// Each text of `tests/modules/messages.txt` has the faults in front of it and no other, with ` | ` between them: the rule, the
+/// line, the column and the message.
+#[test]
+fn faults_have_messages() {
+    let list = fs::read_to_string("tests/modules/messages.txt").unwrap();
+    for line in list.lines() {
+        let (wanted, quoted) = line.split_once('\t').unwrap();
+        let text = unquoted(quoted);
+        let faults = check(&text).faults;
+        let found = placed(&text, &faults).into_iter().map(|(place, message)| format!("{place}: {message}"));
+        assert_eq!(found.collect::<Vec<_>>().join(" | "), wanted, "{text}");
+    }
+}
+
+/// A count that an override gives is spelled as it is written.
+#[test]
+fn counts_of_overrides_are_spelled() {
+    let checked = check("override n = 4; var<workgroup> a: array<array<i32, 3>, 2 * n>; fn f() { _ = a[0]; }");
+    let types = checked.parts.iter().filter_map(|part| part.typed.as_ref());
+    let spelled: Vec<String> = types.map(|(ty, _)| checked.spelling(ty)).collect();
+    assert!(spelled.contains(&"ref<workgroup, array<array<i32, 3>, 2 * n>, read_write>".to_string()), "{spelled:?}");
+}
+
 /// Shaders as they are written, in `tests/modules/shaders.txt`: the rule, the line and the column of each fault, of some with the
 /// message, and the types of some expressions, the last ones of their texts.
 #[test]
@@ -47,12 +80,7 @@ fn shaders_have_faults_and_types() {
         let [faults, types, quoted] = fields[..] else { panic!("{line}") };
         let text = unquoted(quoted);
         let checked = check(&text);
-        let places = checked.faults.iter().map(|fault| {
-            let lines: Vec<&str> = text[..fault.bytes.start].split('\n').collect();
-            let column = lines[lines.len() - 1].len() + 1;
-            (format!("{} {}:{column}", fault.rule.word(), lines.len()), &fault.message)
-        });
-        let places: Vec<_> = places.collect();
+        let places = placed(&text, &checked.faults);
         let faults: Vec<&str> = faults.split("; ").filter(|fault| !fault.is_empty()).collect();
         let are_right = faults.iter().zip(&places).all(|(fault, (place, message))| {
             fault == place || *fault == format!("{place}: {message}")

@@ -134,7 +134,7 @@ def compare_check():
     plus = at(2, 23, 22), at(2, 24, 23)
     why = ("+(T, T) -> T, T: number: argument 2 is bool", "+(T, vecN<T>) -> vecN<T>, T: number: argument 2 is bool",
            "+(vecN<T>, T) -> vecN<T>, T: number: argument 1 is u32", "+(matNxM<T>, matNxM<T>) -> matNxM<T>, T: float: argument 1 is u32")
-    fault = wgsl.Fault(*plus, "overload", "no overload takes these operands", tuple(wgsl.Note(*plus, each) for each in why))
+    fault = wgsl.Fault(*plus, "overload", "no overload of `+` takes (u32, bool)", tuple(wgsl.Note(*plus, each) for each in why))
     parts = [wgsl.Part(at(1, 28, 22), at(1, 30, 24), "u32", "const", None), wgsl.Part(at(2, 20, 20), at(2, 22, 21), "u32", "const", at(1, 23, 18)),
              wgsl.Part(at(2, 25, 24), at(2, 29, 28), "bool", "const", None)]
     for given, wanted in ((text, wgsl.Checked((fault,), tuple(parts))), ("", wgsl.Checked((), ())), ("struct S { a: f32 }", wgsl.Checked((), ()))):

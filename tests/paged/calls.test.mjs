@@ -109,7 +109,7 @@ test("the check of a text has its faults, and the types of its expressions, with
     end: { line: 2, column: 47, utf16Column: 46, index: text.indexOf("+") + 1 },
   };
   assert.deepEqual(faults, [{
-    kind: "overload", message: "no overload takes these operands", ...plus,
+    kind: "overload", message: "no overload of `+` takes (u32, bool)", ...plus,
     notes: [
       { message: "+(T, T) -> T, T: number: argument 2 is bool", ...plus },
       { message: "+(T, vecN<T>) -> vecN<T>, T: number: argument 2 is bool", ...plus },

@@ -126,7 +126,7 @@ def check(text: str | bytes) -> Checked:
 
     >>> checked = check("fn f(v: vec3f) -> f32 { let a = v.x * true; }")
     >>> [(fault.start.column, fault.message) for fault in checked.faults]
-    [(37, 'no overload takes these operands'), (45, 'this function may end without a `return`')]
+    [(37, 'no overload of `*` takes (f32, bool)'), (45, 'this function may end without a `return`')]
     >>> [(part.start.column, part.end.column, part.type) for part in checked.parts]
     [(33, 34, 'vec3<f32>'), (33, 36, 'f32'), (39, 43, 'bool')]
     """

@@ -78,6 +78,7 @@ fn report_checked<'a>(
         lines,
         text,
         tokens: &checked.tokens,
+        counts: &checked.counts,
     };
     let messages = messages_of(source, &checked.faults, &checked.misread)?;
     let parts = if options.has_types {
@@ -116,7 +117,7 @@ fn messages_of(
         let kind = code_of(alloc, fault.rule)?;
         let mut text = String::new(alloc);
         match misread_at(misread, fault.place.from) {
-            Some(found) if is_explained(found, &mut left) => {
+            Some(found) if !source.is_strange(found.at) && is_explained(found, &mut left) => {
                 write_misread(&mut text, alloc, source.whole(), found, None)?
             }
             _ => write_all(&mut text, &[Piece::Visible(fault.message.as_str())])?,

@@ -15,6 +15,8 @@ pub struct Source<'a> {
     pub lines: &'a Lines<'a>,
     pub text: &'a str,
     pub tokens: &'a [Token],
+    /// What counts elements when the pipeline is made, as it is written.
+    pub counts: &'a [String],
 }
 
 impl<'a> Source<'a> {
@@ -23,6 +25,12 @@ impl<'a> Source<'a> {
             text: self.text,
             tokens: self.tokens,
         }
+    }
+
+    /// Whether no token of WGSL is at an index.
+    pub fn is_strange(self, at: usize) -> bool {
+        let whole = self.whole();
+        whole.strange(whole.token(at)).is_some()
     }
 
     /// The index of the first byte of something.

@@ -1,7 +1,7 @@
 // How a report is written.
 
 use crate::source::Source;
-use std::alloc::{AllocError, Global};
+use std::alloc::AllocError;
 use wgsl_core::ty::show::ShownType;
 use wgsl_names::fault::Place;
 use wgsl_names::known::{Part, Typed};
@@ -10,6 +10,7 @@ use wgsl_report::json::{separator, write_messages};
 use wgsl_report::message::{Message, Severity, beginning};
 use wgsl_report::write::{Piece, write_all};
 use wgsl_syntax::rules::RuleSet;
+use wgsl_typing::count::with_counts;
 
 /// Writes a line per expression that has a type: its place, how it begins, and the type.
 pub fn write_types(output: &mut String, source: Source, parts: &[Part]) -> Result<(), AllocError> {
@@ -18,7 +19,7 @@ pub fn write_types(output: &mut String, source: Source, parts: &[Part]) -> Resul
             let (at, end) = (source.start(part.place), source.end(part.place));
             write_place(output, source, at)?;
             let (quoted, dots) = beginning(source.text.get(at..end).unwrap_or(""));
-            let ty = type_text(source.alloc, typed)?;
+            let ty = type_text(source, typed)?;
             let pieces = [
                 Piece::Text("`"),
                 Piece::Visible(quoted),
@@ -86,7 +87,7 @@ fn write_type_json(
     part: &Part,
     typed: &Typed,
 ) -> Result<(), AllocError> {
-    let ty = type_text(source.alloc, typed)?;
+    let ty = type_text(source, typed)?;
     let (before, declared, after) = match part.declared {
         Some(count) => (
             "{",
@@ -121,11 +122,12 @@ fn write_place(output: &mut String, source: Source, at: usize) -> Result<(), All
     write!(output, "{file}:{line}:{column}: ")
 }
 
-/// The spelling of a type by WGSL's own rules.
-fn type_text(alloc: Global, typed: &Typed) -> Result<String, AllocError> {
+/// The spelling of a type by WGSL's own rules, with counts that overrides give as they are written.
+fn type_text(source: Source, typed: &Typed) -> Result<String, AllocError> {
     let shown = ShownType {
         ty: &typed.ty,
         rules: RuleSet::Standard,
     };
-    format!(in alloc; "{shown}")
+    let text = format!(in source.alloc; "{shown}")?;
+    with_counts(source.alloc, text.as_str(), source.counts)
 }

@@ -85,7 +85,7 @@ pub struct Attributes {
     pub to: usize,
     /// Whether none has a fault: those that have one aren't in the list.
     pub are_fine: bool,
-    /// Whether one of them is that of a stage, perhaps with a fault.
+    /// Whether one of them is that of a stage, perhaps with a fault, or unknown.
     pub have_stage: bool,
 }
 

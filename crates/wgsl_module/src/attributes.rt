@@ -4,10 +4,11 @@ use crate::attribute::{Attribute, Attributes, Name, Owner, Row, row_named};
 use crate::checker::Checker;
 use std::alloc::AllocError;
 use wgsl_core::ty::Type;
-use wgsl_forms::switch::switch_type;
-use wgsl_names::fault::{Place, Rule};
+use wgsl_names::fault::Rule;
 use wgsl_names::known::Part;
 use wgsl_reader::kind::Kind;
+use wgsl_source::fault::{Cause, Expected};
+use wgsl_source::meant::is_severity;
 use wgsl_typing::item::Item;
 
 /// What stands in the brackets of an attribute.
@@ -65,19 +66,28 @@ impl<'t> Checker<'t> {
         self.expressions.push(Item::OpenList)
     }
 
-    /// `@diagnostic(off, a)`
-    pub fn put_diagnostic(&mut self, count: usize) -> Result<(), AllocError> {
-        match self.owner {
-            Owner::Function | Owner::Statement => Ok(()),
-            _ => self.refuse_attribute(count, "can't stand here"),
+    /// The severity of `diagnostic(off, a)`, which is an attribute behind `@`.
+    pub fn put_severity(&mut self, count: usize) -> Result<(), AllocError> {
+        let named = count.saturating_sub(2);
+        let is_attribute = self.expressions.token_before(named.saturating_sub(1)).kind == Kind::At;
+        if is_attribute && !matches!(self.owner, Owner::Function | Owner::Statement) {
+            self.refuse_attribute(named, "can't stand here")?;
         }
+        if !is_severity(self.word(count)) {
+            self.tell_name(Rule::Syntax, count, "is no severity")?;
+            self.suggest(count, Cause::Expected(Expected::Severity))?;
+        }
+        Ok(())
     }
 
-    /// The severity of a diagnostic filter.
-    pub fn check_severity(&mut self, count: usize) -> Result<(), AllocError> {
-        match self.word(count) {
-            "error" | "warning" | "info" | "off" => Ok(()),
-            _ => self.tell_name(Rule::Syntax, count, "is no severity"),
+    /// An attribute that WGSL doesn't have, as `@stage(vertex)` of old.
+    fn refuse_unknown(&mut self, named: usize, arguments: &Arguments) -> Result<(), AllocError> {
+        self.refuse_attribute(named, "is no attribute")?;
+        match arguments.names.as_slice() {
+            [stage] if self.word(named) == "stage" => {
+                self.expressions.suggest(Some(self.word(*stage)))
+            }
+            _ => self.suggest(named, Cause::UnknownAttribute),
         }
     }
 
@@ -94,8 +104,11 @@ impl<'t> Checker<'t> {
         let mut list = self.expressions.take_list()?;
         let named = self.expressions.take_name();
         let row = row_named(self.word(named));
-        let takes_names = matches!(row, Some((_, Name::Builtin | Name::Interpolate, _, _, _)));
-        if let Some((_, Name::Vertex | Name::Fragment | Name::Compute, _, _, _)) = row {
+        let takes_names = matches!(
+            row,
+            None | Some((_, Name::Builtin | Name::Interpolate, _, _, _))
+        );
+        if let None | Some((_, Name::Vertex | Name::Fragment | Name::Compute, _, _, _)) = row {
             self.pending.have_stage = true;
         }
         let mut arguments = Arguments {
@@ -133,12 +146,11 @@ impl<'t> Checker<'t> {
     ) -> Result<(), AllocError> {
         let name = match self.allowed(row, arguments) {
             Ok(name) => name,
+            Err(_) if row.is_none() => return self.refuse_unknown(named, arguments),
             Err(message) => return self.refuse_attribute(named, message),
         };
         let integer = match arguments.parts.first() {
-            Some(_) if name == Name::WorkgroupSize => {
-                self.workgroup_size(named, &arguments.parts)?
-            }
+            Some(_) if name == Name::WorkgroupSize => self.workgroup_size(&arguments.parts)?,
             Some(part) => self.integer_of(name, part)?,
             None => Some(None),
         };
@@ -204,11 +216,15 @@ impl<'t> Checker<'t> {
         };
         let is_integer = matches!(typed.ty, Type::AbstractInt | Type::I32 | Type::U32);
         let is_positive = matches!(name, Name::Align | Name::Size);
+        let most = match typed.ty {
+            Type::U32 => 0xFFFF_FFFF,
+            _ => 0x7FFF_FFFF,
+        };
         let message = match part.integer() {
             _ if !is_integer || !typed.stage.is_const() => {
                 "expected an integer that is a const-expression"
             }
-            Some(value) if value < 0 || value >= 0x8000_0000 || value == 0 && is_positive => {
+            Some(value) if value < 0 || value > most || value == 0 && is_positive => {
                 "this integer is too small or too large"
             }
             integer => return Ok(Some(integer)),
@@ -218,23 +234,17 @@ impl<'t> Checker<'t> {
     }
 
     /// One to three integers of one type, from 1 on: None where a fault is told.
-    fn workgroup_size(
-        &mut self,
-        named: usize,
-        parts: &[Part],
-    ) -> Result<Option<Option<i64>>, AllocError> {
+    fn workgroup_size(&mut self, parts: &[Part]) -> Result<Option<Option<i64>>, AllocError> {
         let mut operands = Vec::new(self.expressions.alloc);
+        let mut places = Vec::new(self.expressions.alloc);
         for part in parts {
             match part.typed() {
                 Some(typed) => operands.push(typed.early_operand())?,
                 None => return Ok(None),
             }
+            places.push(part.place)?;
         }
-        let Some((first, rest)) = operands.split_first() else {
-            return Ok(None);
-        };
-        let refusal = switch_type(first, rest).err();
-        if !self.expressions.allows(Place::last_of(named), refusal)? {
+        if self.agreed(&operands, &places)?.is_none() {
             return Ok(None);
         }
         for part in parts {

@@ -10,8 +10,9 @@ use std::alloc::AllocError;
 use std::collections::BTreeSet;
 use wgsl_core::ty::Type;
 use wgsl_forms::switch::switch_type;
-use wgsl_names::fault::Rule;
+use wgsl_names::fault::{Place, Rule};
 use wgsl_reader::kind::Kind;
+use wgsl_standard::operand::Operand;
 use wgsl_typing::expression::shown;
 
 impl<'t> Checker<'t> {
@@ -251,20 +252,37 @@ impl<'t> Checker<'t> {
             return Ok(None);
         };
         let mut operands = Vec::new(self.expressions.alloc);
+        let mut places = Vec::new(self.expressions.alloc);
+        operands.push(shown(selector))?;
+        places.push(switch.selector.place)?;
         for value in &switch.values {
             match value.typed() {
                 Some(typed) => operands.push(shown(typed))?,
                 None => return Ok(None),
             }
+            places.push(value.place)?;
         }
-        match switch_type(&shown(selector), &operands) {
-            Ok(scalar) => Ok(Some(Type::from(scalar))),
-            Err(refusal) => {
-                self.expressions
-                    .allows(switch.selector.place, Some(refusal))?;
-                Ok(None)
-            }
+        self.agreed(&operands, &places)
+    }
+
+    /// The integer type of values; None where it is told that they have none, at the first that doesn't agree with those before it.
+    pub fn agreed(
+        &mut self,
+        operands: &[Operand<'_>],
+        places: &[Place],
+    ) -> Result<Option<Type>, AllocError> {
+        let Some((first, rest)) = operands.split_first() else {
+            return Ok(None);
+        };
+        if let Ok(scalar) = switch_type(first, rest) {
+            return Ok(Some(Type::from(scalar)));
         }
+        let count = first_wrong(first, rest);
+        let refusal = switch_type(first, rest.get(..count).unwrap_or(rest)).err();
+        if let Some(place) = places.get(count) {
+            self.expressions.allows(*place, refusal)?;
+        }
+        Ok(None)
     }
 
     fn check_values(&mut self, switch: &Switch, ty: &Type) -> Result<(), AllocError> {
@@ -282,6 +300,19 @@ impl<'t> Checker<'t> {
         }
         Ok(())
     }
+}
+
+/// The index of the first value that doesn't agree with those before it, if one doesn't.
+fn first_wrong(first: &Operand<'_>, rest: &[Operand<'_>]) -> usize {
+    let (mut low, mut high) = (0usize, rest.len());
+    for _ in 0..64 {
+        let middle = low.saturating_add(high.saturating_sub(low) / 2);
+        match switch_type(first, rest.get(..middle).unwrap_or(rest)) {
+            Ok(_) => low = middle.saturating_add(1),
+            Err(_) => high = middle,
+        }
+    }
+    high
 }
 
 /// Whether such a statement opens a scope: `for` that of its variable, `loop` that which its `continuing` sees.

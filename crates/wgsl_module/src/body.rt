@@ -4,58 +4,60 @@ ghost use Rattle.wgsl_names.specs.Faults.{IsToldIf, last_of};
 
 use crate::attribute::Owner;
 use crate::behaviour::Behaviour;
-use crate::checker::Checker;
+use crate::checker::{Checker, Interface};
+use crate::declaration::DeclarationKind;
+use crate::field::Field;
 use crate::frame::Around;
-use std::alloc::AllocError;
+use std::alloc::{AllocError, Global};
 use wgsl_core::ty::Type;
+use wgsl_forms::declare::{is_const_type, is_let_type};
 use wgsl_names::fault::Rule;
-use wgsl_names::known::{Known, Typed};
+use wgsl_names::known::Typed;
 use wgsl_names::stage::Stage;
 use wgsl_typing::expressions::Doings;
 
 impl<'t> Checker<'t> {
-    /// Reads the body of a function, if its declaration has no fault.
+    /// Reads the body of a function.
     pub fn read_body(&mut self, index: usize) -> Result<(), AllocError> {
-        let Some(declaration) = self.declaration(index) else {
+        let declaration = match self.declaration(index) {
+            Some(declaration) if declaration.kind == DeclarationKind::Function => declaration,
+            _ => return Ok(()),
+        };
+        let Some(interface) = self.take_interface(index) else {
             return Ok(());
         };
         let alloc = self.expressions.alloc;
-        let mut types = Vec::new(alloc);
-        let Some(Known::Function(signature)) = self.expressions.known_at(index) else {
-            return Ok(());
-        };
-        for ty in &signature.parameters {
-            types.push(ty.clone(alloc)?)?;
-        }
-        let result = match &signature.result {
-            Some(ty) => Some(ty.clone(alloc)?),
+        self.result = match &interface.result {
+            Some(field) => returned(alloc, field)?,
             None => None,
         };
-        self.result = result;
+        self.has_faulty_result = interface.result.is_some() && self.result.is_none();
         self.expressions.items.clear();
         self.flow.clear();
         self.go(Around::FUNCTION);
         self.owner = Owner::Statement;
         self.expressions.doing = Some(Doings::none(alloc));
         self.expressions.locals.open()?;
-        self.declare_parameters(index, types)?;
+        self.declare_parameters(&interface)?;
+        self.keep(index, interface);
         self.steps(declaration.body)?;
         self.expressions.locals.close()?;
         self.keep_doing(index)
     }
 
-    fn declare_parameters(&mut self, index: usize, types: Vec<Type>) -> Result<(), AllocError> {
-        let mut names = Vec::new(self.expressions.alloc);
-        if let Some(Some(interface)) = self.interfaces.get(index) {
-            for field in &interface.fields {
-                names.push(field.named)?;
+    /// Declares the parameters. One whose type has a fault is faulty.
+    fn declare_parameters(&mut self, interface: &Interface) -> Result<(), AllocError> {
+        for field in &interface.fields {
+            let name = self.word(field.named);
+            let typed = match &field.ty {
+                Some(ty) if is_let_type(ty) => {
+                    Some(Typed::of(ty.clone(self.expressions.alloc)?, Stage::Runtime))
+                }
+                _ => None,
+            };
+            if !self.expressions.locals.is_here(name) {
+                self.expressions.locals.declare(name, field.named, typed)?;
             }
-        }
-        for (named, ty) in names.iter().zip(types) {
-            let name = self.word(*named);
-            self.expressions
-                .locals
-                .declare(name, *named, Some(Typed::of(ty, Stage::Runtime)))?;
         }
         Ok(())
     }
@@ -77,5 +79,13 @@ impl<'t> Checker<'t> {
             self.tell_last(Rule::Behaviour, count, message)?;
         }
         Ok(())
+    }
+}
+
+/// The type of a result, if a function may return it.
+fn returned(alloc: Global, field: &Field) -> Result<Option<Type>, AllocError> {
+    match &field.ty {
+        Some(ty) if is_const_type(ty) => Ok(Some(ty.clone(alloc)?)),
+        _ => Ok(None),
     }
 }

@@ -12,6 +12,8 @@ use std::collections::{BTreeMap, BTreeSet};
 use wgsl_core::ty::Type;
 use wgsl_names::fault::{Place, Rule};
 use wgsl_reader::token::Token;
+use wgsl_source::fault::Cause;
+use wgsl_source::meant::{Declared, meant};
 use wgsl_typing::expressions::{Doings, Expressions};
 
 /// What is known of a declaration beside its name's meaning: a struct's members, or the parameters, the result and the attributes
@@ -46,6 +48,8 @@ pub struct Checker<'t> {
     pub around: Around,
     /// The result of the function whose body is read.
     pub result: Option<Type>,
+    /// Whether it has one whose type has a fault.
+    pub has_faulty_result: bool,
 }
 
 impl<'t> Checker<'t> {
@@ -66,6 +70,7 @@ impl<'t> Checker<'t> {
             switches: Vec::new(alloc),
             around: Around::FUNCTION,
             result: None,
+            has_faulty_result: false,
         }
     }
 
@@ -86,6 +91,13 @@ impl<'t> Checker<'t> {
         ensures { IfOk result (λ u. IsTold rule (last_of count) self.old.expressions.faults.items self.new.expressions.faults.items) }
     {
         self.tell(rule, Place::last_of(count), message)
+    }
+
+    /// Adds to the last fault the name of WGSL that a word may have meant which has this fault.
+    pub fn suggest(&mut self, count: usize, cause: Cause) -> Result<(), AllocError> {
+        let none = Declared::none(self.expressions.alloc);
+        let name = meant(cause, self.word(count), &none);
+        self.expressions.suggest(name)
     }
 
     /// Says what is wrong with a name.

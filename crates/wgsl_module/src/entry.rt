@@ -5,7 +5,7 @@ use crate::checker::{Checker, Interface};
 use crate::interface::ShaderStage;
 use crate::walk::Link;
 use std::alloc::AllocError;
-use std::collections::BTreeSet;
+use std::collections::{BTreeMap, BTreeSet};
 use wgsl_core::ty::Type;
 use wgsl_core::ty::form::Form;
 use wgsl_names::fault::Rule;
@@ -22,7 +22,6 @@ impl<'t> Checker<'t> {
             }
             if let Some(interface) = self.take_interface(index) {
                 self.check_entry_point(index, &interface)?;
-                self.keep(index, interface);
             }
         }
         Ok(())
@@ -75,31 +74,41 @@ impl<'t> Checker<'t> {
                 }
             }
         }
-        let name = stage.name();
-        let message = format!(in self.expressions.alloc;
-            "a {name} shader does this, which it can't"
-        )?;
+        let message = self.unusable(stage, root)?;
         for place in &wrong {
-            self.tell(Rule::Stage, *place, message.as_str())?;
+            let name = place.from.saturating_add(1);
+            self.tell_name(Rule::Stage, name, message.as_str())?;
         }
-        self.check_variables(stage, &variables)
+        self.check_variables(stage, root, &variables)
+    }
+
+    /// What is wrong with what an entry point can't use.
+    fn unusable(&self, stage: ShaderStage, root: usize) -> Result<String, AllocError> {
+        let (stage, name) = (stage.name(), self.word(self.named(root).unwrap_or(0)));
+        format!(in self.expressions.alloc; "can't be used by the {stage} shader `{name}`")
     }
 
     fn check_variables(
         &mut self,
         stage: ShaderStage,
+        root: usize,
         variables: &BTreeSet<usize>,
     ) -> Result<(), AllocError> {
-        let mut places = BTreeSet::new(self.expressions.alloc);
+        let mut places = BTreeMap::new(self.expressions.alloc);
         for index in variables {
             let named = self.named(*index).unwrap_or(0);
             if !include(self.stages_of(*index), stage) {
-                let message = "can't be used in a shader of this stage";
-                self.tell_name(Rule::Stage, named, message)?;
+                let message = self.unusable(stage, root)?;
+                self.tell_name(Rule::Stage, named, message.as_str())?;
             }
             if let Some(place) = self.bindings.get(&named).copied() {
-                if !places.insert(place)? {
-                    self.tell_name(Rule::Binding, named, "has the binding of another variable")?;
+                if let Some(first) = places.insert(place, named)? {
+                    let name = self.word(first);
+                    let message = format!(in self.expressions.alloc;
+                        "has the binding of `{name}`"
+                    )?;
+                    self.tell_name(Rule::Binding, named, message.as_str())?;
+                    self.expressions.refer(first)?;
                 }
             }
         }

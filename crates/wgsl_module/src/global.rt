@@ -6,11 +6,12 @@ use crate::checker::Checker;
 use crate::declaration::DeclarationKind;
 use std::alloc::AllocError;
 use wgsl_forms::declare::{Declaration as Form, override_without_value};
+use wgsl_forms::variable::holds;
 use wgsl_names::fault::{Place, Rule};
 use wgsl_names::known::{Known, Part, Typed};
 use wgsl_names::stage::Stage;
 use wgsl_names::structs::behind;
-use wgsl_syntax::address::AddressSpace;
+use wgsl_syntax::address::{AccessMode, AddressSpace};
 use wgsl_typing::count::has_override_count;
 use wgsl_typing::declared::Declared;
 
@@ -98,7 +99,8 @@ impl<'t> Checker<'t> {
         let (space, access) = match self.expressions.take_space() {
             Some(Some(space)) => space,
             Some(None) => return Ok(None),
-            None => (AddressSpace::Handle, None),
+            None if self.may_be_handle(named, part, declared)? => (AddressSpace::Handle, None),
+            None => return Ok(None),
         };
         if space == AddressSpace::Function {
             let message = "is in the module, and so not in `function`";
@@ -120,6 +122,25 @@ impl<'t> Checker<'t> {
             None => false,
         };
         Ok(if is_fine { typed } else { None })
+    }
+
+    /// Whether a variable without an address space may be a handle. If it can't, that is told.
+    fn may_be_handle(
+        &mut self,
+        named: usize,
+        part: Option<&Part>,
+        declared: &Declared,
+    ) -> Result<bool, AllocError> {
+        let may_be_handle = match declared {
+            Declared::Type(ty) => holds(AddressSpace::Handle, AccessMode::Read, ty),
+            Declared::No => part.is_none(),
+            Declared::Faulty => true,
+        };
+        if !may_be_handle {
+            let message = "needs an address space, as in `var<private>`";
+            self.tell_name(Rule::Type, named, message)?;
+        }
+        Ok(may_be_handle)
     }
 
     fn may_lie_in(

@@ -8,6 +8,7 @@ use std::collections::BTreeSet;
 use wgsl_core::ty::Type;
 use wgsl_core::ty::form::Form;
 use wgsl_names::fault::Rule;
+use wgsl_source::fault::Cause;
 use wgsl_typing::extension::is_among;
 
 /// The stage of an entry point.
@@ -28,12 +29,11 @@ impl ShaderStage {
     }
 }
 
-/// A built-in value: its name, its type (an array of one to eight without their number), the stages that take it, and those that
-/// return it.
+/// A built-in value: its name, its type (of an array N is one to eight), the stages that take it, and those that return it.
 type BuiltIn = (&'static str, &'static str, &'static str, &'static str);
 
 const BUILT_INS: [BuiltIn; 20] = [
-    ("clip_distances", "array<f32>", "", "vertex"),
+    ("clip_distances", "array<f32, N>", "", "vertex"),
     ("frag_depth", "f32", "", "fragment"),
     ("front_facing", "bool", "fragment", ""),
     ("global_invocation_id", "vec3<u32>", "compute", ""),
@@ -73,18 +73,19 @@ struct Side<'t> {
     built_ins: BTreeSet<&'t str>,
 }
 
-/// What is wrong with a member, a parameter or a result: the rule; the name that it is wrong with, by the number of tokens up to it,
-/// or else it is the type; and why.
-type Trouble = (Rule, Option<usize>, &'static str);
-
-/// This is wrong with the type of what an entry point takes or returns.
-fn wrong_type(message: &'static str) -> Option<Trouble> {
-    Some((Rule::EntryPoint, None, message))
-}
-
-/// This is wrong with a name in the attributes of what an entry point takes or returns.
-fn wrong_name(count: usize, message: &'static str) -> Option<Trouble> {
-    Some((Rule::EntryPoint, Some(count), message))
+/// What is wrong with a member, a parameter or a result. Names stand in its attributes, by the number of tokens up to them.
+#[derive(Clone, Copy)]
+enum Trouble {
+    /// This, with its type.
+    Type(&'static str),
+    /// This, with a name.
+    Name(usize, &'static str),
+    /// A name that is no built-in value.
+    NoBuiltIn(usize),
+    /// A built-in value, and its type.
+    OtherType(usize, &'static str),
+    /// A name, and the extension that it needs.
+    Disabled(usize, &'static str),
 }
 
 impl<'t> Checker<'t> {
@@ -118,10 +119,41 @@ impl<'t> Checker<'t> {
     fn is_right(&mut self, field: &Field, trouble: Option<Trouble>) -> Result<bool, AllocError> {
         match trouble {
             None => return Ok(true),
-            Some((rule, Some(count), message)) => self.tell_name(rule, count, message)?,
-            Some((rule, None, message)) => self.tell(rule, field.place, message)?,
+            Some(Trouble::Type(message)) => self.tell(Rule::EntryPoint, field.place, message)?,
+            Some(Trouble::Name(count, message)) => {
+                self.tell_name(Rule::EntryPoint, count, message)?
+            }
+            Some(Trouble::NoBuiltIn(count)) => {
+                self.tell_name(Rule::EntryPoint, count, "is no built-in value")?;
+                self.suggest(count, Cause::UnknownBuiltInValue)?;
+            }
+            Some(Trouble::OtherType(count, spelled)) => {
+                self.tell_other_type(field, count, spelled)?
+            }
+            Some(Trouble::Disabled(count, extension)) => {
+                let message = format!(in self.expressions.alloc; "needs `enable {extension};`")?;
+                self.tell_name(Rule::Extension, count, message.as_str())?
+            }
         }
         Ok(false)
+    }
+
+    /// Says that a built-in value has another type.
+    fn tell_other_type(
+        &mut self,
+        field: &Field,
+        count: usize,
+        spelled: &str,
+    ) -> Result<(), AllocError> {
+        let Some(ty) = &field.ty else {
+            return Ok(());
+        };
+        let name = self.word(count);
+        let message = format!(in self.expressions.alloc;
+            "`{name}` must be `{spelled}`, not `{ty}`"
+        )?;
+        self.expressions
+            .fault(Rule::EntryPoint, field.place, message)
     }
 
     /// What attributes ask of the type of a member, a parameter or a result, whoever uses it.
@@ -133,50 +165,52 @@ impl<'t> Checker<'t> {
     fn trouble_of(&self, of: Attributes, ty: &Type) -> Option<Trouble> {
         if let Some(count) = self.name_in(of, Name::Builtin) {
             match built_in(self.word(count)) {
-                None => return wrong_name(count, "is no built-in value"),
+                None => return Some(Trouble::NoBuiltIn(count)),
                 Some((_, spelled, _, _)) if !is_of(spelled, ty) => {
-                    return wrong_type("this built-in value has another type");
+                    return Some(Trouble::OtherType(count, spelled));
                 }
-                Some((name, _, _, _)) if !self.is_enabled(name) => {
-                    return Some((Rule::Extension, Some(count), "needs an extension"));
+                Some((name, _, _, _)) => {
+                    if let Some(extension) = self.missing(name) {
+                        return Some(Trouble::Disabled(count, extension));
+                    }
                 }
-                Some(_) => {}
             }
         }
         let has_location = self.has(of, Name::Location);
         if has_location && !is_carried(ty) {
-            return wrong_type("this type can't have a @location");
+            return Some(Trouble::Type("this type can't have a @location"));
         }
         match (
             self.attribute(of, Name::Interpolate),
+            self.attribute(of, Name::BlendSrc),
             self.attribute(of, Name::Invariant),
         ) {
-            (Some(interpolate), _) if !has_location => {
-                wrong_name(interpolate.named, "stands with @location")
+            (Some(interpolate), _, _) if !has_location => {
+                Some(Trouble::Name(interpolate.named, "stands with @location"))
             }
-            _ if self.has(of, Name::BlendSrc) && !self.is_enabled("blend_src") => {
-                let message = "@blend_src needs `enable dual_source_blending;`";
-                Some((Rule::Extension, None, message))
+            (_, Some(source), _) if self.missing("blend_src").is_some() => {
+                Some(Trouble::Disabled(source.named, "dual_source_blending"))
             }
-            (_, Some(invariant)) if !self.says(of, Name::Builtin, "position") => {
-                wrong_name(invariant.named, "stands with @builtin(position)")
+            (_, _, Some(invariant)) if !self.says(of, Name::Builtin, "position") => {
+                Some(Trouble::Name(invariant.named, "stands with @builtin(position)"))
             }
             _ => None,
         }
     }
 
-    /// Whether the extension is enabled that an attribute or a built-in value needs, if it needs one.
-    fn is_enabled(&self, name: &str) -> bool {
+    /// The extension that an attribute or a built-in value needs, if it isn't enabled.
+    fn missing(&self, name: &str) -> Option<&'static str> {
         let extensions = self.expressions.extensions;
-        match name {
-            "blend_src" => extensions.dual_source_blending,
-            "clip_distances" => extensions.clip_distances,
-            "primitive_index" => extensions.primitive_index,
+        let (is_enabled, extension) = match name {
+            "blend_src" => (extensions.dual_source_blending, "dual_source_blending"),
+            "clip_distances" => (extensions.clip_distances, "clip_distances"),
+            "primitive_index" => (extensions.primitive_index, "primitive_index"),
             "subgroup_id" | "num_subgroups" | "subgroup_invocation_id" | "subgroup_size" => {
-                extensions.subgroups
+                (extensions.subgroups, "subgroups")
             }
-            _ => true,
-        }
+            _ => return None,
+        };
+        if is_enabled { None } else { Some(extension) }
     }
 
     /// No two members of a struct have one `@location`.
@@ -184,7 +218,10 @@ impl<'t> Checker<'t> {
         let mut seen = BTreeSet::new(self.expressions.alloc);
         for field in fields {
             if !self.is_free(&mut seen, field.attributes)? {
-                return self.is_right(field, wrong_type("a second member with this @location"));
+                return self.is_right(
+                    field,
+                    Some(Trouble::Type("a second member with this @location")),
+                );
             }
         }
         Ok(true)
@@ -205,7 +242,10 @@ impl<'t> Checker<'t> {
             return Ok(true);
         };
         if side.stage == ShaderStage::Compute && !side.is_input {
-            return self.is_right(field, wrong_type("a compute shader returns nothing"));
+            return self.is_right(
+                field,
+                Some(Trouble::Type("a compute shader returns nothing")),
+            );
         }
         let is_value = self.has(field.attributes, Name::Location)
             || self.has(field.attributes, Name::Builtin);
@@ -251,9 +291,11 @@ impl<'t> Checker<'t> {
             self.name_in(of, Name::Builtin),
             self.has(of, Name::Location),
         ) {
-            _ if matches!(ty.form(), Form::Struct(_)) => wrong_type("a struct can't stand here"),
-            (Some(_), true) => wrong_type("@builtin and @location exclude each other"),
-            (None, false) => wrong_type("this needs @builtin or @location"),
+            _ if matches!(ty.form(), Form::Struct(_)) => Some(Trouble::Type(
+                "a struct can't stand here",
+            )),
+            (Some(_), true) => Some(Trouble::Type("@builtin and @location exclude each other")),
+            (None, false) => Some(Trouble::Type("this needs @builtin or @location")),
             (built_in, _) => match (self.trouble_of(of, ty), built_in) {
                 (None, Some(count)) => self.carry_built_in(side, count)?,
                 (None, None) => self.carry_location(side, of, ty)?,
@@ -275,9 +317,9 @@ impl<'t> Checker<'t> {
             None => "",
         };
         Ok(if !is_among(side.stage.name(), stages) {
-            wrong_name(count, "can't stand here in this stage")
+            Some(Trouble::Name(count, "can't stand here in this stage"))
         } else if !side.built_ins.insert(name)? {
-            wrong_name(count, "stands here twice")
+            Some(Trouble::Name(count, "stands here twice"))
         } else {
             None
         })
@@ -293,11 +335,11 @@ impl<'t> Checker<'t> {
         let is_integer = matches!(component_of(ty), Type::I32 | Type::U32);
         let is_flat = self.says(of, Name::Interpolate, "flat");
         Ok(if side.stage == ShaderStage::Compute {
-            wrong_type("a compute shader has no @location")
+            Some(Trouble::Type("a compute shader has no @location"))
         } else if is_between && is_integer && !is_flat {
-            wrong_type("an integer between stages needs @interpolate(flat)")
+            Some(Trouble::Type("an integer between stages needs @interpolate(flat)"))
         } else if !self.is_free(&mut side.locations, of)? {
-            wrong_type("this @location stands here twice")
+            Some(Trouble::Type("this @location stands here twice"))
         } else {
             None
         })
@@ -328,7 +370,7 @@ fn is_of(spelled: &str, ty: &Type) -> bool {
         ("f32", _) => ty.is_f32(),
         ("vec3<u32>", Form::Vector(3, of)) => of.is_u32(),
         ("vec4<f32>", Form::Vector(4, of)) => of.is_f32(),
-        ("array<f32>", Form::Array(Some(count), of)) => 1 <= count && count <= 8 && of.is_f32(),
+        ("array<f32, N>", Form::Array(Some(count), of)) => 1 <= count && count <= 8 && of.is_f32(),
         _ => false,
     }
 }

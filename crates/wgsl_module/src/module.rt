@@ -9,10 +9,11 @@ use wgsl_names::fault::{Fault, Place, Rule};
 use wgsl_names::known::{Known, Part};
 use wgsl_names::scope::{Bound, Locals};
 use wgsl_reader::kind::Kind;
-use wgsl_reader::lists::tokens_of;
 use wgsl_reader::mark::Mark;
 use wgsl_reader::module::{Misread, Module, read_module};
 use wgsl_reader::token::Token;
+use wgsl_source::fault::{Cause, ExtensionKind};
+use wgsl_source::text::{Text, tokens};
 use wgsl_typing::expressions::{Expressions, Named};
 use wgsl_typing::extension::is_required;
 
@@ -24,6 +25,8 @@ pub struct Checked {
     pub tokens: Vec<Token>,
     /// What the grammar doesn't read, for messages.
     pub misread: Vec<Misread>,
+    /// What counts elements when the pipeline is made, as it is written: an array's count from 0x80000000 on is an index here.
+    pub counts: Vec<String>,
     /// The declarations of the module, and the names that it was given.
     pub declared: Vec<Named>,
     /// Those of functions.
@@ -36,13 +39,7 @@ pub fn check<'t>(
     given: Vec<(&'t str, Known)>,
     text: &'t str,
 ) -> Result<Checked, AllocError> {
-    let tokens = match tokens_of(alloc, text.as_bytes())? {
-        Ok(tokens) => tokens,
-        Err(at) => {
-            let len = text.len().saturating_sub(at).min(1);
-            return unreadable(alloc, at, len, "no token begins here");
-        }
-    };
+    let tokens = tokens(alloc, text.as_bytes())?;
     let grammar = read_module(alloc, &tokens)?;
     let mut checked = read_all(alloc, given, text, &tokens, &grammar)?;
     let Module { misread, .. } = grammar;
@@ -68,6 +65,7 @@ fn read_all<'t>(
         parts,
         mut faults,
         declared,
+        override_counts,
         locals,
         ..
     } = expressions;
@@ -75,12 +73,36 @@ fn read_all<'t>(
     let Locals { closed, .. } = locals;
     Ok(Checked {
         parts,
-        faults,
+        faults: distinct(alloc, faults)?,
         tokens: Vec::new(alloc),
         misread: Vec::new(alloc),
+        counts: override_counts,
         declared,
         locals: closed,
     })
+}
+
+/// The faults without those that are told again, as of a struct that two entry points use.
+fn distinct(alloc: Global, faults: Vec<Fault>) -> Result<Vec<Fault>, AllocError> {
+    let mut kept: Vec<Fault> = Vec::with_capacity(alloc, faults.len())?;
+    for fault in faults {
+        let place = fault.place;
+        let mut there = kept
+            .iter()
+            .rev()
+            .take_while(|other| other.place.from == place.from);
+        if !there.any(|other| is_again(other, &fault)) {
+            kept.push(fault)?;
+        }
+    }
+    Ok(kept)
+}
+
+/// Whether a fault says no more than another one: what can't be used in a stage is told of one entry point.
+fn is_again(told: &Fault, fault: &Fault) -> bool {
+    told.rule == fault.rule
+        && told.place.to == fault.place.to
+        && (fault.rule == Rule::Stage || told.message.as_str() == fault.message.as_str())
 }
 
 /// A text that has a fault as a whole, at some bytes.
@@ -107,6 +129,7 @@ pub fn unreadable(
         faults,
         tokens: vec![in alloc; token; 1]?,
         misread: Vec::new(alloc),
+        counts: Vec::new(alloc),
         declared: Vec::new(alloc),
         locals: Vec::new(alloc),
     })
@@ -117,7 +140,15 @@ impl<'t> Checker<'t> {
     fn misread(&mut self, all: &[Misread]) -> Result<(), AllocError> {
         for misread in all {
             let count = misread.at.saturating_add(1);
-            self.tell_last(Rule::Syntax, count, "this can't stand here")?;
+            let text = Text {
+                text: self.expressions.text,
+                tokens: self.expressions.tokens,
+            };
+            let message = match text.strange(text.token(misread.at)) {
+                Some(cause) => cause.text(),
+                None => "this can't stand here",
+            };
+            self.tell_last(Rule::Syntax, count, message)?;
             if let Some(named) = self.misread_name(*misread) {
                 self.declarations.push(Declaration {
                     kind: DeclarationKind::Misread,
@@ -251,7 +282,12 @@ impl<'t> Checker<'t> {
                 _ => true,
             };
             if !is_known {
+                let kind = match declaration.kind {
+                    DeclarationKind::Enable => ExtensionKind::Enabled,
+                    _ => ExtensionKind::Required,
+                };
                 self.tell_name(Rule::Extension, event.at, "is no extension")?;
+                self.suggest(event.at, Cause::UnknownExtension(kind))?;
             }
         }
         self.steps(declaration.events)

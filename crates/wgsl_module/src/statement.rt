@@ -9,6 +9,7 @@ use wgsl_constants::constant::Constant;
 use wgsl_forms::assign::{assign_by, binary_operator, increment};
 use wgsl_forms::declare::discard;
 use wgsl_forms::flow::return_value;
+use wgsl_forms::refusal::Refusal;
 use wgsl_names::fault::{Place, Rule};
 use wgsl_names::known::{Outcome, Part, Typed};
 use wgsl_names::stage::Stage;
@@ -50,16 +51,13 @@ impl<'t> Checker<'t> {
     /// `x = y;`, `x += y;`
     pub fn assign(&mut self, is_compound: bool) -> Result<(), AllocError> {
         let right = self.expressions.take_part()?;
-        let mut operator = AssignmentOperator::Equal;
-        if is_compound {
-            let sign = self.expressions.take_sign();
-            operator = assignment_of(self.word(sign));
-        }
+        let sign = match is_compound {
+            true => Some(self.expressions.take_sign()),
+            false => None,
+        };
         let left = self.expressions.take_part()?;
         if self.expressions.has_value(&left)? && self.expressions.has_value(&right)? {
-            if let (Some(x), Some(y)) = (left.typed(), right.typed()) {
-                self.check_assignment(operator, left.place, x, &right, y)?;
-            }
+            self.check_assignment(sign, &left, &right)?;
         }
         self.expressions.note(left)?;
         self.end_with(right)
@@ -67,15 +65,23 @@ impl<'t> Checker<'t> {
 
     fn check_assignment(
         &mut self,
-        operator: AssignmentOperator,
-        place: Place,
-        x: &Typed,
+        sign: Option<usize>,
+        left: &Part,
         right: &Part,
-        y: &Typed,
     ) -> Result<(), AllocError> {
-        let refusal = assign_by(operator, &x.operand(), &shown(y)).err();
-        if !self.expressions.allows(place, refusal)? {
+        let (Some(x), Some(y)) = (left.typed(), right.typed()) else {
             return Ok(());
+        };
+        let operator = match sign {
+            Some(count) => assignment_of(self.word(count)),
+            None => AssignmentOperator::Equal,
+        };
+        match (assign_by(operator, &x.operand(), &shown(y)), sign) {
+            (Ok(_), _) => {}
+            (Err(Refusal::Binary(binary, _, _)), Some(count)) => {
+                return self.expressions.tell_overloads(binary, count, x, y);
+            }
+            (Err(refusal), _) => return self.refuse_writing(left.place, refusal),
         }
         let (ty, binary) = (behind(&x.ty), binary_operator(operator));
         let scalar = match binary {
@@ -85,10 +91,22 @@ impl<'t> Checker<'t> {
         let value = self.expressions.argument_value(right, Some(scalar))?;
         if let (Some(value), Some(binary)) = (value, binary) {
             if let Some(message) = wrong_right(binary, Some(ty), value, Stage::Runtime) {
-                return self.tell(Rule::Value, place, message);
+                return self.tell(Rule::Value, left.place, message);
             }
         }
         Ok(())
+    }
+
+    /// Says why nothing can be written to what has this place.
+    fn refuse_writing(&mut self, place: Place, refusal: Refusal<'_>) -> Result<(), AllocError> {
+        let name = place.from.saturating_add(1);
+        match (&refusal, self.expressions.constant_named(name)) {
+            (Refusal::NotReference(_), Some(message)) => self.tell_name(Rule::Type, name, message),
+            _ => {
+                self.expressions.allows(place, Some(refusal))?;
+                Ok(())
+            }
+        }
     }
 
     /// `x++;`, `x--;`, or `_ = x;`
@@ -100,7 +118,9 @@ impl<'t> Checker<'t> {
                 true => increment(&typed.operand()).err(),
                 false => discard(&shown(typed)).err(),
             };
-            self.expressions.allows(part.place, refusal)?;
+            if let Some(refusal) = refusal {
+                self.refuse_writing(part.place, refusal)?;
+            }
         }
         self.end_with(part)
     }
@@ -148,6 +168,9 @@ impl<'t> Checker<'t> {
 
     fn check_returned(&mut self, part: &Part, typed: &Typed) -> Result<(), AllocError> {
         let Some(ty) = self.result.take() else {
+            if self.has_faulty_result {
+                return Ok(());
+            }
             return self.tell(Rule::Type, part.place, "this function returns no value");
         };
         let refusal = return_value(&shown(typed), &ty).err();

@@ -23,8 +23,7 @@ impl<'t> Checker<'t> {
         match event.mark {
             Mark::AttributeName => self.open_attribute(count),
             Mark::Attribute => self.close_attribute(count),
-            Mark::DiagnosticAttribute => self.put_diagnostic(count),
-            Mark::Severity => self.check_severity(count),
+            Mark::Severity => self.put_severity(count),
             Mark::Member | Mark::Parameter => self.put_field(),
             Mark::Result => self.put_result(),
             _ => self.step_of_statement(event),

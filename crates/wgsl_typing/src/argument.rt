@@ -86,6 +86,7 @@ impl<'t> Expressions<'t> {
     /// Ranges that must not be empty, or lie outside of 32 bits.
     pub fn check_ranges(&mut self, name: &str, arguments: &[Part]) -> Result<(), AllocError> {
         let first = match name {
+            _ if !self.is_evaluated() => return Ok(()),
             "extractBits" => 1,
             "insertBits" => 2,
             "clamp" => return self.check_clamp(arguments),

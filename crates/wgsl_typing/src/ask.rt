@@ -20,6 +20,7 @@ use wgsl_forms::array::construct_array_of;
 use wgsl_forms::lists::{Taker, construct_struct, fit};
 use wgsl_forms::member::type_of_member;
 use wgsl_names::known::{Part, Typed};
+use wgsl_names::structs::behind;
 use wgsl_standard::answer::NoOverload;
 use wgsl_standard::callee::Callee;
 use wgsl_standard::explanation::explain;
@@ -34,6 +35,8 @@ const NOTES: usize = 8;
 #[derive(Drop)]
 pub struct Unresolved {
     pub reason: NoOverload,
+    /// That no overload takes the operands.
+    pub message: String,
     /// Why overloads don't take the operands, the nearest first.
     pub notes: Vec<String>,
 }
@@ -168,11 +171,42 @@ fn answered<'p>(
     match resolve_callee(alloc, callee, template, operands) {
         Ok(call) => Ok(Ok(call)),
         Err(Fail::Error(reason)) => {
+            let message = no_overload(alloc, callee, template, operands)?;
             let notes = notes_on(alloc, callee, template, operands)?;
-            Ok(Err(Unresolved { reason, notes }))
+            Ok(Err(Unresolved {
+                reason,
+                message,
+                notes,
+            }))
         }
         Err(Fail::Memory(error)) => Err(error),
     }
+}
+
+/// That no overload takes the operands: `+` none that are i32 and f32.
+fn no_overload<'p>(
+    alloc: Global,
+    callee: Callee<'p>,
+    template: Option<&'p Type>,
+    operands: &[Operand<'p>],
+) -> Result<String, AllocError> {
+    let mut message = String::from_str(alloc, "no overload of `")?;
+    match callee {
+        Callee::Unary(operator) => write!(message, "{operator}")?,
+        Callee::Binary(operator) => write!(message, "{operator}")?,
+        Callee::Function(name) | Callee::Constructor(name) => message.push_str(name)?,
+    }
+    if let Some(ty) = template {
+        write!(message, "<{ty}>")?;
+    }
+    message.push_str("` takes (")?;
+    for (index, operand) in operands.iter().enumerate() {
+        let ty = operand.ty.loaded();
+        let comma = if index == 0 { "" } else { ", " };
+        write!(message, "{comma}{ty}")?;
+    }
+    message.push(')')?;
+    Ok(message)
 }
 
 /// Why the nearest overloads don't take the operands.
@@ -208,6 +242,12 @@ pub fn member_of<'p>(
             made.referent = form.ty.referent();
             Ok(Ok(made))
         }
-        Err(refusal) => Ok(Err(format!(in alloc; "{refusal}")?)),
+        Err(refusal) => Ok(Err(match behind(ty).form() {
+            Form::Struct(_) => {
+                let of = behind(ty);
+                format!(in alloc; "`{of}` has no member `{name}`")?
+            }
+            _ => format!(in alloc; "{refusal}")?,
+        })),
     }
 }

@@ -10,8 +10,9 @@ use crate::constant::call_value;
 use crate::expression::of_call;
 use crate::expressions::Expressions;
 use crate::item::{Callee as Called, Item, Listed};
+use crate::meant::Wanted;
 use crate::name::{Meaning, predeclared_type, typed};
-use std::alloc::AllocError;
+use std::alloc::{AllocError, Global};
 use wgsl_core::ty::Type;
 use wgsl_names::fault::{Place, Rule};
 use wgsl_names::known::{Known, Outcome, Part, Signature};
@@ -19,8 +20,9 @@ use wgsl_names::stage::Stage;
 use wgsl_names::value::Value;
 use wgsl_spelling::predeclared::{LayerName, PredeclaredType};
 use wgsl_standard::callee::{
-    Callee, can_be_const_expression, may_be_dropped, needs_subgroups, overloads, stages_of,
+    Callee, can_be_const_expression, may_be_dropped, needs_subgroups, stages_of,
 };
+use wgsl_standard::meant::unknown_name;
 
 /// A call that is read: its name or its type, and its arguments.
 #[derive(Clone, Copy)]
@@ -112,14 +114,22 @@ impl<'t> Expressions<'t> {
     /// A call with faulty arguments: says what is wrong with its name.
     fn check_head(&mut self, callee: &Called) -> Result<Outcome, AllocError> {
         if let Called::Name(count) = callee {
-            if matches!(self.meaning(*count), Meaning::Undeclared)
-                && predeclared_type(self.word(*count)).is_none()
-                && overloads(Callee::Function(self.word(*count)), false).is_none()
-            {
-                return self.faulty(Rule::Name, *count, "stands for no function");
+            if matches!(self.meaning(*count), Meaning::Undeclared) {
+                self.is_called(*count)?;
             }
         }
         Ok(Outcome::Faulty)
+    }
+
+    /// Whether WGSL has a function or a type with a name that nothing declares. If it has none, that is told.
+    fn is_called(&mut self, count: usize) -> Result<bool, AllocError> {
+        let name = self.word(count);
+        let is_called = predeclared_type(name).is_some()
+            || unknown_name(Callee::Function(name)).is_none();
+        if !is_called {
+            self.tell_unknown(Wanted::Function, count)?;
+        }
+        Ok(is_called)
     }
 
     fn called(&mut self, callee: &Called, call: &Call<'_>) -> Result<Outcome, AllocError> {
@@ -130,7 +140,10 @@ impl<'t> Expressions<'t> {
                 }
                 Meaning::Unread(_) => self.cyclic(*count),
                 Meaning::Declared(index) => self.call_declared(*count, index, call),
-                Meaning::Undeclared => self.call_predeclared(*count, call),
+                Meaning::Undeclared => match self.is_called(*count)? {
+                    true => self.call_predeclared(*count, call),
+                    false => Ok(Outcome::Faulty),
+                },
             },
             Called::Listed(_, Listed::Type(Some(ty))) => self.construct(ty, call),
             Called::Listed(_, Listed::Function(count, Some(ty))) => {
@@ -173,7 +186,8 @@ impl<'t> Expressions<'t> {
     {
         let name = self.word(count);
         if let Some(message) = misfit(self.alloc, name, call.arguments, &signature.parameters)? {
-            self.fault(Rule::Type, call.head, message)?;
+            let place = misplaced(self.alloc, name, call, &signature.parameters)?;
+            self.fault(Rule::Type, place, message)?;
             return Ok(Outcome::Faulty);
         }
         if !self.values_fit(call.arguments, &signature.parameters)? {
@@ -296,4 +310,21 @@ impl<'t> Expressions<'t> {
         }
         Ok(outcome)
     }
+}
+
+/// The place of the first argument that its parameter doesn't take, or of what is called if their numbers differ.
+fn misplaced(
+    alloc: Global,
+    name: &str,
+    call: &Call<'_>,
+    types: &[Type],
+) -> Result<Place, AllocError> {
+    if call.arguments.len() == types.len() {
+        for (argument, ty) in call.arguments.chunks(1).zip(types.chunks(1)) {
+            if let ([part], Some(_)) = (argument, misfit(alloc, name, argument, ty)?) {
+                return Ok(part.place);
+            }
+        }
+    }
+    Ok(call.head)
 }

@@ -131,6 +131,15 @@ fn compared(operator: BinaryOperator, x: Integer, y: Integer) -> Computed {
     Ok(Some(Value::One(Constant::Bool(holds))))
 }
 
+/// The value of `false && x` and `true || x`, whatever `x` is.
+pub fn decided(operator: BinaryOperator, left: Value) -> Option<Value> {
+    match (operator, left) {
+        (BinaryOperator::ShortCircuitAnd, Value::One(Constant::Bool(false)))
+        | (BinaryOperator::ShortCircuitOr, Value::One(Constant::Bool(true))) => Some(left),
+        _ => None,
+    }
+}
+
 /// What is wrong with a right operand, whatever the left one is: a shift that is too far, or a zero that divides.
 pub fn wrong_right(
     operator: BinaryOperator,

@@ -3,7 +3,7 @@
 use crate::expressions::Expressions;
 use crate::item::Item;
 use crate::list::OVERRIDE_COUNT;
-use std::alloc::AllocError;
+use std::alloc::{AllocError, Global};
 use wgsl_constants::integer::Integer;
 use wgsl_core::ty::Type;
 use wgsl_core::ty::form::Form;
@@ -94,28 +94,56 @@ impl<'t> Expressions<'t> {
         }
     }
 
+    /// A message in which counts that overrides give are as they are written.
+    pub fn as_written(&self, message: String) -> Result<String, AllocError> {
+        if self.override_counts.is_empty() {
+            return Ok(message);
+        }
+        with_counts(self.alloc, message.as_str(), &self.override_counts)
+    }
+
     /// The count that stands for an override expression. Two names of one override are the same count.
     fn count_by_override(
         &mut self,
         name: Option<usize>,
         place: Place,
     ) -> Result<usize, AllocError> {
-        let text = match name {
-            Some(count) => self.word(count),
-            None => self.text.get(self.token(place.from).at..).unwrap_or(""),
-        };
+        let text = self.text_of(place);
         for (index, other) in self.override_counts.iter().enumerate() {
-            if *other == text {
+            if name.is_some() && other.as_str() == text {
                 return Ok(OVERRIDE_COUNT.saturating_add(index));
             }
         }
-        self.override_counts.push(text)?;
+        self.override_counts
+            .push(String::from_str(self.alloc, text)?)?;
         Ok(
             OVERRIDE_COUNT
                 .saturating_add(self.override_counts.len())
                 .saturating_sub(1),
         )
     }
+}
+
+/// A text with types, in which counts that overrides give are as they are written.
+pub fn with_counts(alloc: Global, shown: &str, counts: &[String]) -> Result<String, AllocError> {
+    let mut written = String::new(alloc);
+    for (index, piece) in shown.split('>').enumerate() {
+        if index > 0 {
+            written.push('>')?;
+        }
+        match written_count(piece, counts) {
+            Some((front, count)) => write!(written, "{front} {count}")?,
+            None => written.push_str(piece)?,
+        }
+    }
+    Ok(written)
+}
+
+/// What stands in front of a count that an override gives, and that count as it is written.
+fn written_count<'w>(piece: &'w str, counts: &'w [String]) -> Option<(&'w str, &'w str)> {
+    let (front, count) = piece.rsplit_once(' ')?;
+    let index = count.parse::<usize>().ok()?.checked_sub(OVERRIDE_COUNT)?;
+    Some((front, counts.get(index)?.as_str()))
 }
 
 /// Whether the type can be the type of an element or of a member that isn't the last: what a variable of `workgroup` holds.

@@ -12,6 +12,7 @@ use std::alloc::AllocError;
 use wgsl_core::ty::Type;
 use wgsl_forms::declare::{Declaration, declare};
 use wgsl_forms::flow::condition;
+use wgsl_forms::refusal::Refusal;
 use wgsl_forms::variable::{initialized_variable, variable};
 use wgsl_names::fault::{Place, Rule};
 use wgsl_names::known::{Part, Typed};
@@ -19,6 +20,9 @@ use wgsl_names::stage::Stage;
 use wgsl_names::structs::behind;
 use wgsl_standard::operand::Operand;
 use wgsl_syntax::address::{AccessMode, AddressSpace};
+
+/// What is wrong with a value that must be known before the shader runs.
+const NOT_EARLY: &str = "expected an override-expression";
 
 /// What a declaration says behind its name: the type, if there is one, or that it has a fault.
 #[derive(Drop)]
@@ -107,6 +111,10 @@ impl<'t> Expressions<'t> {
             Ok(ty) => {
                 let ty = ty.build(self.alloc)?;
                 self.holding(part, stage_of(declaration), ty)
+            }
+            Err(Refusal::NotConst) if matches!(declaration, Declaration::Override) => {
+                self.tell(Rule::Type, part.place, NOT_EARLY)?;
+                Ok(None)
             }
             Err(refusal) => {
                 self.allows(part.place, Some(refusal))?;
@@ -204,6 +212,10 @@ impl<'t> Expressions<'t> {
         };
         let operand = value_in(space, value);
         let form = initialized_variable(space, access, &operand, declared.ty());
+        if matches!(form, Err(Refusal::NotConst)) && space == AddressSpace::Private {
+            self.tell(Rule::Type, part.place, NOT_EARLY)?;
+            return Ok(None);
+        }
         match self.built(part.place, form)? {
             Some(reference) => self.holding(part, Stage::Runtime, reference),
             None => Ok(None),

@@ -26,6 +26,10 @@ impl<'t> Expressions<'t> {
             (true, Some(x)) => self.member(count, x)?,
             _ => Outcome::Faulty,
         };
+        if let (Outcome::Faulty, Some(x)) = (&outcome, part.typed()) {
+            let meant = self.meant_member(&x.ty, self.word(count));
+            self.suggest(meant)?;
+        }
         self.parts.push(part)?;
         self.put(place, outcome)
     }
@@ -105,7 +109,7 @@ impl<'t> Expressions<'t> {
         if let (Outcome::Typed(_), Some(Value::One(Constant::Integer(integer)))) = (
             &outcome, i.value,
         ) {
-            if !is_in_bounds(&x.ty, integer.value()) {
+            if self.is_evaluated() && !is_in_bounds(&x.ty, integer.value()) {
                 self.tell(Rule::Value, at, "this index is out of bounds")?;
                 return Ok(Outcome::Faulty);
             }

@@ -9,7 +9,7 @@ ghost use Rattle.wgsl_standard.specs.Resolved.{resolved_view};
 ghost use Rattle.wgsl_typing.specs.Outcomes.{HasResult, HasType, IsFormed, IsOverloaded, loaded, or_faulty, resolved, shown};
 
 use crate::ask::{Resolved, Unresolved, resolved_binary, resolved_unary};
-use crate::constant::{Computed, binary_value, unary_value, wrong_right};
+use crate::constant::{Computed, binary_value, decided, unary_value, wrong_right};
 use crate::expressions::Expressions;
 use crate::item::Item;
 use std::alloc::AllocError;
@@ -22,6 +22,7 @@ use wgsl_names::known::{Outcome, Part, Typed};
 use wgsl_names::stage::Stage;
 use wgsl_names::structs::behind;
 use wgsl_names::value::Value;
+use wgsl_reader::kind::Kind;
 use wgsl_spelling::operator::{binary_of, unary_of};
 use wgsl_standard::answer::NoOverload;
 use wgsl_standard::callee::Callee;
@@ -33,6 +34,24 @@ impl<'t> Expressions<'t> {
     /// Puts an expression on top of the items.
     pub fn put(&mut self, place: Place, outcome: Outcome) -> Result<(), AllocError> {
         self.push(Item::Part(Part::of(place, outcome)))
+    }
+
+    /// An operator. What stands behind `false &&` and `true ||` isn't evaluated.
+    pub fn put_operator(&mut self, count: usize) -> Result<(), AllocError> {
+        let kind = self.token_before(count).kind;
+        if self.is_evaluated() && matches!(kind, Kind::AndAnd | Kind::OrOr) {
+            let left = self.take_part()?;
+            if is_decided(kind, &left) {
+                self.unevaluated = Some(count);
+            }
+            self.push(Item::Part(left))?;
+        }
+        self.push(Item::Sign(count))
+    }
+
+    /// Whether what is read is evaluated, if its value is known.
+    pub fn is_evaluated(&self) -> bool {
+        self.unevaluated.is_none()
     }
 
     /// Takes the operator or the `[` on top, by the number of tokens up to it.
@@ -157,12 +176,14 @@ impl<'t> Expressions<'t> {
         Ok(of_call(call, x.stage, value))
     }
 
-    /// The value that was computed. Says so if it is out of range.
+    /// The value that was computed. Says so if it is evaluated and out of range.
     pub fn computed(&mut self, place: Place, found: Computed) -> Result<Option<Value>, AllocError> {
         match found {
             Ok(value) => Ok(value),
             Err(message) => {
-                self.tell(Rule::Value, place, message)?;
+                if self.is_evaluated() {
+                    self.tell(Rule::Value, place, message)?;
+                }
                 Ok(None)
             }
         }
@@ -176,25 +197,45 @@ impl<'t> Expressions<'t> {
     ) -> Result<Option<ResolvedCall>, AllocError>
         ensures { IfOk result (λ call. option_map resolved_view call ≡ resolved found) }
     {
-        let Unresolved { reason, notes } = match found {
+        let Unresolved {
+            reason,
+            message,
+            notes,
+        } = match found {
             Ok(call) => return Ok(Some(call)),
             Err(unresolved) => unresolved,
         };
-        let (rule, message) = match reason {
-            NoOverload::UnknownName => (Rule::Name, "nothing has this name"),
-            NoOverload::NoCandidate => (Rule::Overload, "no overload takes these operands"),
+        let rule = match reason {
+            NoOverload::UnknownName => Rule::Name,
+            NoOverload::NoCandidate => Rule::Overload,
         };
-        self.tell(rule, place, message)?;
+        self.fault(rule, place, message)?;
         for note in notes {
             self.add_note(place, note)?;
         }
         Ok(None)
     }
 
+    /// Says that no overload of an operator takes what an assignment by it has.
+    pub fn tell_overloads(
+        &mut self,
+        operator: BinaryOperator,
+        count: usize,
+        x: &Typed,
+        y: &Typed,
+    ) -> Result<(), AllocError> {
+        let found = resolved_binary(self.alloc, operator, x, y)?;
+        self.taken(found, Place::last_of(count))?;
+        Ok(())
+    }
+
     /// `x + y`
     pub fn put_binary(&mut self) -> Result<(), AllocError> {
         let right = self.take_part()?;
         let count = self.take_sign();
+        if self.unevaluated == Some(count) {
+            self.unevaluated = None;
+        }
         let left = self.take_part()?;
         let place = left.place.up_to(right.place);
         let have_values = self.has_value(&left)? && self.has_value(&right)?;
@@ -232,18 +273,34 @@ impl<'t> Expressions<'t> {
         let (Some(a), Some(b)) = (a, b) else {
             return Ok(Outcome::Faulty);
         };
-        if let Some(message) = wrong_right(operator, first, b, stage) {
+        if let Some(message) = self.wrong_right(operator, first, b, stage) {
             self.tell(Rule::Value, place, message)?;
             return Ok(Outcome::Faulty);
         }
         let value = match (a, b) {
             (Some(a), Some(b)) => self.computed(place, binary_value(operator, a, b))?,
+            (Some(a), None) => decided(operator, a),
             _ => None,
         };
         Ok(of_call(call, stage, value))
     }
 
-    /// The value of an argument in the type of its parameter: `None` where that is told, `Some(None)` if it isn't computed.
+    /// What is wrong with a right operand that is evaluated.
+    fn wrong_right(
+        &self,
+        operator: BinaryOperator,
+        left: Option<&Type>,
+        right: Option<Value>,
+        stage: Stage,
+    ) -> Option<&'static str> {
+        match self.is_evaluated() {
+            true => wrong_right(operator, left, right, stage),
+            false => None,
+        }
+    }
+
+    /// The value of an argument in the type of its parameter: `None` where that is told, `Some(None)` if it isn't computed, or out of
+    /// range and not evaluated.
     pub fn argument_value(
         &mut self,
         part: &Part,
@@ -254,6 +311,7 @@ impl<'t> Expressions<'t> {
         };
         match value.converted(parameter) {
             Ok(value) => Ok(Some(value)),
+            Err(_) if !self.is_evaluated() => Ok(Some(None)),
             Err(_) => {
                 let message = format!(in self.alloc;
                     "the value is out of the range of `{parameter}`"
@@ -262,6 +320,16 @@ impl<'t> Expressions<'t> {
                 Ok(None)
             }
         }
+    }
+}
+
+/// Whether the left operand of an operator decides when the module is made.
+fn is_decided(operator: Kind, left: &Part) -> bool {
+    match (left.typed(), left.value(), binary_of(operator)) {
+        (Some(typed), Some(value), Some(operator)) => {
+            typed.stage.is_const() && decided(operator, value).is_some()
+        }
+        _ => false,
     }
 }
 

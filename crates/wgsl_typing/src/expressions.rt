@@ -8,6 +8,7 @@ ghost use Rattle.wgsl_typing.specs.Words.{kind_at, kind_of_any, word_at};
 
 use crate::extension::Extensions;
 use crate::item::Item;
+use crate::meant::GUESSED;
 use std::alloc::{AllocError, Global};
 use std::collections::BTreeMap;
 use wgsl_core::ty::Type;
@@ -64,12 +65,16 @@ pub struct Expressions<'t> {
     pub declared: Vec<Named>,
     pub structs: Structs<'t>,
     pub extensions: Extensions,
-    /// The names of overrides that count elements, and the texts from other expressions on that do.
-    pub override_counts: Vec<&'t str>,
+    /// The names of overrides and the other expressions that count elements when the pipeline is made, as they are written.
+    pub override_counts: Vec<String>,
     pub locals: Locals<'t>,
     /// The names that a `continue` may skip, by the index of the first and of the one behind the last.
     pub skipped: (usize, usize),
     pub items: Vec<Item>,
+    /// The `&&` or `||` whose right operand is read and isn't evaluated, by the number of tokens up to it.
+    pub unevaluated: Option<usize>,
+    /// How many faults may yet be told with what a word may have meant.
+    pub guesses: usize,
     /// What the function does whose body is read.
     pub doing: Option<Doings>,
     pub parts: Vec<Part>,
@@ -91,6 +96,8 @@ impl<'t> Expressions<'t> {
             locals: Locals::none(alloc),
             skipped: (0, 0),
             items: Vec::new(alloc),
+            unevaluated: None,
+            guesses: GUESSED,
             doing: None,
             parts: Vec::new(alloc),
             faults: Vec::new(alloc),
@@ -128,6 +135,13 @@ impl<'t> Expressions<'t> {
         }
     }
 
+    /// The text from the first of some tokens to the last.
+    pub fn text_of(&self, place: Place) -> &'t str {
+        let last = self.token_before(place.to);
+        let end = last.at.saturating_add(last.len);
+        self.text.get(self.token(place.from).at..end).unwrap_or("")
+    }
+
     /// Puts an item on top of the others.
     pub fn push(&mut self, item: Item) -> Result<(), AllocError> {
         self.items.push(item)?;
@@ -144,6 +158,7 @@ impl<'t> Expressions<'t> {
     pub fn fault(&mut self, rule: Rule, place: Place, message: String) -> Result<(), AllocError>
         ensures { IfOk result (λ u. IsTold rule place self.old.faults.items self.new.faults.items) }
     {
+        let message = self.as_written(message)?;
         self.faults.push(Fault {
             rule,
             place,
@@ -155,6 +170,7 @@ impl<'t> Expressions<'t> {
 
     /// Adds a note to the last fault.
     pub fn add_note(&mut self, place: Place, message: String) -> Result<(), AllocError> {
+        let message = self.as_written(message)?;
         if let Some(fault) = self.faults.last_mut() {
             fault.notes.push(Note { place, message })?;
         }

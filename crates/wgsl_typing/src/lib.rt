@@ -17,6 +17,7 @@ pub mod expressions;
 pub mod extension;
 pub mod item;
 pub mod list;
+pub mod meant;
 pub mod name;
 mod number;
 mod step;

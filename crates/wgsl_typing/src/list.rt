@@ -2,6 +2,7 @@
 
 use crate::expressions::Expressions;
 use crate::item::{Item, Listed};
+use crate::meant::Wanted;
 use crate::name::{Meaning, predeclared_type};
 use std::alloc::AllocError;
 use std::str::FromStr;
@@ -9,6 +10,7 @@ use wgsl_core::ty::Type;
 use wgsl_forms::variable::variable;
 use wgsl_names::fault::{Place, Rule};
 use wgsl_names::known::Part;
+use wgsl_spelling::meant::{ACCESS_MODES, SPACES};
 use wgsl_spelling::predeclared::{LayerName, PredeclaredType};
 use wgsl_standard::callee::{Callee, overloads};
 use wgsl_syntax::address::{AccessMode, AddressSpace};
@@ -95,11 +97,11 @@ impl<'t> Expressions<'t> {
     ) -> Result<Listed, AllocError> {
         let name = self.word(named);
         if overloads(Callee::Function(name), true).is_none() {
-            let message = match overloads(Callee::Function(name), false) {
-                Some(_) => "takes no template list",
-                None => "stands for nothing with a template list",
-            };
-            self.tell_name(Rule::Name, named, message)?;
+            if overloads(Callee::Function(name), false).is_some() {
+                self.tell_name(Rule::Name, named, "takes no template list")?;
+            } else {
+                self.tell_unknown(Wanted::Listed, named)?;
+            }
             return Ok(Listed::Function(named, None));
         }
         if !self.has_length(named, list, 1, 1)? {
@@ -170,7 +172,10 @@ impl<'t> Expressions<'t> {
         };
         match AddressSpace::named_by(RuleSet::Standard, self.word(count)) {
             Some(space) if space != AddressSpace::Handle => Ok(Some(space)),
-            _ => self.nothing(Rule::Template, count, "is no address space"),
+            _ => {
+                self.tell_among(Rule::Template, count, "is no address space", SPACES)?;
+                Ok(None)
+            }
         }
     }
 
@@ -181,7 +186,10 @@ impl<'t> Expressions<'t> {
         };
         match AccessMode::from_str(self.word(count)) {
             Ok(access) if access != AccessMode::Atomic => Ok(Some(access)),
-            _ => self.nothing(Rule::Template, count, "is no access mode"),
+            _ => {
+                self.tell_among(Rule::Template, count, "is no access mode", ACCESS_MODES)?;
+                Ok(None)
+            }
         }
     }
 

@@ -5,11 +5,13 @@ ghost use Rattle.wgsl_typing.specs.Outcomes.{HasType};
 
 use crate::expressions::Expressions;
 use crate::item::{Item, Listed};
+use crate::meant::Wanted;
 use std::alloc::AllocError;
 use wgsl_core::ty::Type;
 use wgsl_names::fault::{Place, Rule};
 use wgsl_names::known::{Known, Outcome, Part, Typed};
 use wgsl_names::stage::Stage;
+use wgsl_reader::kind::Kind;
 use wgsl_spelling::predeclared::{LayerName, PredeclaredType, predeclared};
 use wgsl_syntax::overload::Stages;
 use wgsl_syntax::texture_name::{TextureName, TextureParameters};
@@ -92,7 +94,10 @@ impl<'t> Expressions<'t> {
             Meaning::Local(index) => self.value_of_local(index, count)?,
             Meaning::Declared(index) => self.value_declared(index, count)?,
             Meaning::Unread(_) => self.cyclic(count)?,
-            Meaning::Undeclared => self.faulty(Rule::Name, count, "stands for no value")?,
+            Meaning::Undeclared => {
+                self.tell_unknown(Wanted::Value, count)?;
+                Outcome::Faulty
+            }
         };
         let declared = self.place_of_declaration(count);
         Ok(Part {
@@ -118,6 +123,18 @@ impl<'t> Expressions<'t> {
             Meaning::Local(index) => Some(self.locals.get(index)?.bound.named),
             Meaning::Declared(index) | Meaning::Unread(index) => self.declared.get(index)?.named,
             Meaning::Undeclared => None,
+        }
+    }
+
+    /// Why nothing can be written to a name that is no variable.
+    pub fn constant_named(&self, count: usize) -> Option<&'static str> {
+        let named = self.place_of_declaration(count)?;
+        match self.token_before(named.saturating_sub(1)).kind {
+            Kind::Let => Some("is a `let`, and can't be assigned"),
+            Kind::Const => Some("is a `const`, and can't be assigned"),
+            Kind::Override => Some("is an `override`, and can't be assigned"),
+            Kind::Var | Kind::CloseTemplate | Kind::Fn | Kind::Struct | Kind::Alias => None,
+            _ => Some("is a parameter, and can't be assigned"),
         }
     }
 
@@ -215,7 +232,8 @@ impl<'t> Expressions<'t> {
 
     fn type_predeclared(&mut self, count: usize) -> Result<Option<Type>, AllocError> {
         let Some(named) = predeclared_type(self.word(count)) else {
-            return self.nothing(Rule::Name, count, "stands for no type");
+            self.tell_unknown(Wanted::Type, count)?;
+            return Ok(None);
         };
         if named.is_half() && !self.extensions.f16 {
             return self.nothing(Rule::Extension, count, "needs `enable f16;`");

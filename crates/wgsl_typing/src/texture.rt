@@ -6,6 +6,7 @@ use crate::name::texture_type;
 use std::alloc::AllocError;
 use wgsl_core::ty::Type;
 use wgsl_names::fault::Rule;
+use wgsl_spelling::meant::TEXEL_FORMATS;
 use wgsl_syntax::rules::RuleSet;
 use wgsl_syntax::texel::TexelFormat;
 use wgsl_syntax::texture::SampledType;
@@ -64,7 +65,8 @@ impl<'t> Expressions<'t> {
         let format = match TexelFormat::named_by(RuleSet::Standard, self.word(count)) {
             Some(format) if format != TexelFormat::R64Uint => format,
             _ => {
-                return self.nothing(Rule::Template, count, "is no texel format");
+                self.tell_among(Rule::Template, count, "is no texel format", TEXEL_FORMATS)?;
+                return Ok(None);
             }
         };
         match self.next_access(list)? {
