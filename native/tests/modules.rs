@@ -55,18 +55,24 @@ fn faults_have_messages() {
         let (wanted, quoted) = line.split_once('\t').unwrap();
         let text = unquoted(quoted);
         let faults = check(&text).faults;
-        let found = placed(&text, &faults).into_iter().map(|(place, message)| format!("{place}: {message}"));
-        assert_eq!(found.collect::<Vec<_>>().join(" | "), wanted, "{text}");
+        let found: Vec<String> = placed(&text, &faults)
+            .into_iter()
+            .map(|(place, message)| format!("{place}: {message}"))
+            .collect();
+        assert_eq!(found.join(" | "), wanted, "{text}");
     }
 }
 
 /// A count that an override gives is spelled as it is written.
 #[test]
 fn counts_of_overrides_are_spelled() {
-    let checked = check("override n = 4; var<workgroup> a: array<array<i32, 3>, 2 * n>; fn f() { _ = a[0]; }");
+    let text =
+        "override n = 4; var<workgroup> a: array<array<i32, 3>, 2 * n>; fn f() { _ = a[0]; }";
+    let checked = check(text);
     let types = checked.parts.iter().filter_map(|part| part.typed.as_ref());
     let spelled: Vec<String> = types.map(|(ty, _)| checked.spelling(ty)).collect();
-    assert!(spelled.contains(&"ref<workgroup, array<array<i32, 3>, 2 * n>, read_write>".to_string()), "{spelled:?}");
+    let wanted = "ref<workgroup, array<array<i32, 3>, 2 * n>, read_write>";
+    assert!(spelled.iter().any(|ty| ty == wanted), "{spelled:?}");
 }
 
 /// Shaders as they are written, in `tests/modules/shaders.txt`: the rule, the line and the column of each fault, of some with the
