@@ -2,12 +2,16 @@
 
 mod names;
 mod signature;
+mod uses;
 
 use crate::proved::wgsl_core::ty::show::ShownType;
-use crate::proved::wgsl_module::module::check as checked;
+use crate::proved::wgsl_module::module::{check as checked, Checked as Found};
 use crate::proved::wgsl_names::fault::Place;
 use crate::proved::wgsl_names::known::{Known, Outcome, Typed};
+use crate::proved::wgsl_reader::module::Misread;
 use crate::proved::wgsl_reader::token::Token;
+use crate::proved::wgsl_report::message::{is_explained, write_misread, EXPLAINED};
+use crate::proved::wgsl_source::text::Text;
 use crate::proved::wgsl_syntax::rules::RuleSet;
 use crate::proved::wgsl_typing::count::with_counts;
 use crate::shim::always;
@@ -22,6 +26,7 @@ pub use crate::proved::wgsl_names::stage::Stage;
 use names::names_of;
 pub use names::{Meaning, Name};
 pub use signature::Signature;
+pub use uses::Member;
 
 /// What is found of a module.
 #[derive(Clone, Debug)]
@@ -36,6 +41,10 @@ pub struct Checked {
     text: String,
     tokens: Vec<Token>,
     counts: Vec<String>,
+    /// The indices of parts by their ends, of two with one end the longer one last.
+    by_end: Vec<usize>,
+    /// The indices of names by their texts, those of one text in their order.
+    by_text: Vec<usize>,
 }
 
 /// An expression.
@@ -105,7 +114,8 @@ pub fn check_in(host: &[(&str, Meaning)], text: &str) -> Checked {
         };
         (*name, known)
     });
-    let found = always(checked(Global, given.collect(), text));
+    let mut found = always(checked(Global, given.collect(), text));
+    explain(&mut found, text);
     let names = names_of(host, text, &found);
     let (tokens, counts) = (found.tokens, found.counts);
     let bytes = |place: Place| bytes_of(text, &tokens, place);
@@ -125,8 +135,26 @@ pub fn check_in(host: &[(&str, Meaning)], text: &str) -> Checked {
             .map(|note| Note { bytes: bytes(note.place), message: note.message })
             .collect(),
     });
-    let (parts, faults) = (parts.collect(), faults.collect());
-    Checked { parts, faults, names, text: text.into(), tokens, counts }
+    let (parts, faults): (Vec<Part>, _) = (parts.collect(), faults.collect());
+    let mut by_end: Vec<usize> = (0..parts.len()).collect();
+    by_end.sort_by_key(|index| (parts[*index].bytes.end, parts[*index].bytes.len()));
+    let mut by_text: Vec<usize> = (0..names.len()).collect();
+    by_text.sort_by(|left, right| names[*left].text.cmp(&names[*right].text));
+    Checked { parts, faults, names, text: text.into(), tokens, counts, by_end, by_text }
+}
+
+/// Says of faults of syntax what may stand there, as many as the program explains.
+fn explain(found: &mut Found, text: &str) {
+    let text = Text { text, tokens: &found.tokens };
+    let mut left = EXPLAINED;
+    for fault in &mut found.faults {
+        let at = |misread: &Misread| misread.at.cmp(&fault.place.from);
+        let misread = found.misread.binary_search_by(at).ok().map(|index| found.misread[index]);
+        if let Some(misread) = misread.filter(|misread| is_explained(*misread, &mut left)) {
+            fault.message.clear();
+            always(write_misread(&mut fault.message, Global, text, misread, None));
+        }
+    }
 }
 
 fn start_of(text: &str, tokens: &[Token], index: usize) -> usize {

@@ -1,12 +1,13 @@
 //! The names that WGSL predeclares, as an editor completes them. Those of types and of enumerants include naga's.
 //!
 //! ```
-//! use wgsl_types_proved::predeclared::{attributes, enumerants, functions, is_function, types};
+//! use wgsl_types_proved::predeclared::{attributes, builtin_values, enumerants, functions, is_function, types};
 //!
 //! assert!(is_function("bitcast") && functions().any(|name| name == "dpdx"));
 //! assert!(types().any(|name| name == "vec3") && types().any(|name| name == "vec3f"));
 //! assert!(enumerants().any(|name| name == "read_write"));
 //! assert!(attributes().any(|name| name == "workgroup_size"));
+//! assert!(builtin_values().any(|name| name == "position"));
 //! ```
 
 use crate::proved::wgsl_standard::names::{templates, ALIASES, OTHER_TYPES};
@@ -41,4 +42,9 @@ pub fn enumerants() -> impl Iterator<Item = &'static str> {
 /// The attributes.
 pub fn attributes() -> impl Iterator<Item = &'static str> {
     ATTRIBUTES.iter().copied()
+}
+
+/// The built-in values, the arguments of `@builtin`.
+pub fn builtin_values() -> impl Iterator<Item = &'static str> {
+    BUILTIN_VALUES.iter().copied()
 }

@@ -4,12 +4,13 @@ use crate::source::{Refusal, Source};
 use std::path::Path;
 
 /// The name of a list; the source, and the function or the table whose texts are its names.
-const LISTS: [(&str, &str, [&str; 2]); 6] = [
+const LISTS: [(&str, &str, [&str; 2]); 7] = [
     ("SCALARS", "wgsl_syntax/src/scalar.rt", ["fn", "scalar_named"]),
     ("ACCESS_MODES", "wgsl_syntax/src/address.rt", ["fn", "access_named"]),
     ("SPACES", "wgsl_syntax/src/address.rt", ["fn", "space_named"]),
     ("FORMATS", "wgsl_syntax/src/texel.rt", ["fn", "texel_named"]),
     ("FLAGS", "wgsl_syntax/src/attribute.rt", ["fn", "flag_named"]),
+    ("BUILTIN_VALUES", "wgsl_syntax/src/builtin_value.rt", ["fn", "builtin_named"]),
     ("ATTRIBUTES", "wgsl_source/src/attribute.rt", ["fn", "attribute_named"]),
 ];
 

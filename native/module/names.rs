@@ -49,6 +49,16 @@ impl Name {
             _ => None,
         }
     }
+
+    /// Whether it stands for that at a byte, unless another name hides it.
+    pub(super) fn is_in_scope(&self, byte: usize) -> bool {
+        self.scope.0 <= byte && byte <= self.scope.1
+    }
+
+    /// Whether its declaration has it at a byte.
+    pub(super) fn is_declared_at(&self, byte: usize) -> bool {
+        self.bytes.as_ref().is_some_and(|bytes| bytes.start == byte)
+    }
 }
 
 impl Checked {
@@ -56,7 +66,7 @@ impl Checked {
     pub fn names_at(&self, byte: usize) -> Vec<&Name> {
         let mut seen = BTreeSet::new();
         let names = self.names.iter().rev();
-        let names = names.filter(|name| name.scope.0 <= byte && byte <= name.scope.1);
+        let names = names.filter(|name| name.is_in_scope(byte));
         names.filter(|name| seen.insert(&name.text)).collect()
     }
 }

@@ -39,7 +39,7 @@ impl Checked {
         let argument = arguments.iter().filter(is_passed).count();
         let word = self.between(name..name + 1);
         let known = self.names_at(self.tokens[name].at).into_iter().find(|name| name.text == word);
-        if let Some(overload) = known.and_then(|name| self.declared(name)) {
+        if let Some(overload) = known.and_then(|name| self.overload_of(name)) {
             return Some(Signature { overloads: vec![overload], fitting: Some(0), argument });
         }
         let listed = (name + 1 < open).then(|| self.between(name + 2..open - 1).parse().ok());
@@ -71,23 +71,18 @@ impl Checked {
     }
 
     /// A function or a struct of the module as an overload, or that which a type stands for: `f(a: f32, b: vec3f) -> f32`.
-    fn declared(&self, name: &Name) -> Option<Overload> {
+    pub fn overload_of(&self, name: &Name) -> Option<Overload> {
         let name = match &name.meaning {
             Meaning::Type(Type::Struct(of)) => {
                 self.names.iter().find(|name| name.text == of.name && name.bytes.is_some())?
             }
             _ => name,
         };
-        let start = name.bytes.as_ref()?.start;
-        let index = self.tokens.binary_search_by_key(&start, |token| token.at).ok()?;
-        if !matches!(self.kind(index.wrapping_sub(1)), Fn | Struct) {
-            return None;
-        }
-        let (parameters, close) = self.divided(index + 1);
-        let parameters = parameters.into_iter().filter_map(|of| {
-            let colon = of.clone().find(|index| self.kind(*index) == Colon)?;
-            let (name, ty) = (self.between(colon - 1..colon), self.between(colon + 1..of.end));
-            Some(format!("{name}: {ty}"))
+        let index = self.declared_by(name, &[Fn, Struct])?;
+        let (parameters, close) = self.fields(index + 1);
+        let parameters = parameters.into_iter().map(|(name, ty)| {
+            let (name, ty) = (self.between(name..name + 1), self.between(ty));
+            format!("{name}: {ty}")
         });
         let parameters: Vec<String> = parameters.collect();
         let body = (close..).find(|index| matches!(self.kind(*index), OpenCurly | Fn | End))?;
@@ -97,16 +92,34 @@ impl Checked {
         Some(Overload { text: text.trim_end().into() })
     }
 
-    fn kind(&self, index: usize) -> Kind {
+    /// The index of a name's token in its declaration, if that begins with one of these.
+    pub(super) fn declared_by(&self, name: &Name, kinds: &[Kind]) -> Option<usize> {
+        let start = name.bytes.as_ref()?.start;
+        let index = self.tokens.binary_search_by_key(&start, |token| token.at).ok()?;
+        kinds.contains(&self.kind(index.wrapping_sub(1))).then_some(index)
+    }
+
+    /// The parameters of a function or the members of a struct, behind the open bracket: the token of each name and those of its
+    /// type. Then the index of the token behind them.
+    pub(super) fn fields(&self, open: usize) -> (Vec<(usize, Range<usize>)>, usize) {
+        let (fields, close) = self.divided(open);
+        let fields = fields.into_iter().filter_map(|of| {
+            let colon = of.clone().find(|index| self.kind(*index) == Colon)?;
+            Some((colon.checked_sub(1)?, colon + 1..of.end))
+        });
+        (fields.collect(), close)
+    }
+
+    pub(super) fn kind(&self, index: usize) -> Kind {
         self.tokens.get(index).map_or(End, |token| token.kind)
     }
 
-    fn bytes(&self, tokens: &Range<usize>) -> Option<Range<usize>> {
+    pub(super) fn bytes(&self, tokens: &Range<usize>) -> Option<Range<usize>> {
         let (first, last) = (self.tokens.get(tokens.start)?, self.tokens.get(tokens.end - 1)?);
         Some(first.at..last.at + last.len)
     }
 
-    fn between(&self, tokens: Range<usize>) -> &str {
+    pub(super) fn between(&self, tokens: Range<usize>) -> &str {
         self.bytes(&tokens).and_then(|bytes| self.text.get(bytes)).unwrap_or_default()
     }
 
