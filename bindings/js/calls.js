@@ -227,6 +227,11 @@ function indexOfByte(text, wanted) {
   return index;
 }
 
+/** The compiled module, or null, which `initSync` takes in a worker. */
+export function compiledModule() {
+  return compiled;
+}
+
 /** How many bytes of memory the module has. It grows, and does not shrink. */
 export function memorySize() {
   return wasm === null ? 0 : wasm.memory.buffer.byteLength;

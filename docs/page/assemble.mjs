@@ -30,6 +30,8 @@ const repository = addressForBrowsers(address) ?? (isInClone ? "../README.md" : 
 const html = read(here, "index.html");
 const imports = packageModules();
 for (const [, name] of html.matchAll(/"page\/(\w+)": "\.\/\1\.js"/g)) imports[`page/${name}`] = dataUrl(read(here, `${name}.js`));
+// The map doesn't reach a worker.
+imports["page/worker"] = dataUrl(read(here, "worker.js").replace(/(from )"([^"]+)"/g, (_, start, name) => `${start}"${imports[name]}"`));
 const map = JSON.stringify({ imports }).replaceAll("</", "<\\/");
 writeFileSync(target, html
   .replace(/ <a href="REPOSITORY">([^<]*)<\/a>/, (_, name) => (repository ? ` <a href="${repository}">${name}</a>` : ""))

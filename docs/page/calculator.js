@@ -1,9 +1,30 @@
 // The calculator: an expression over types, or any request. The library answers `type`, `resolve` and `why`; by the ported rules it
 // answers a request in words.
 import { Refused, Unreadable, answer, standardAnswer } from "wgsl-types-proved";
+import { typeIn } from "page/checked";
 import { coded, h } from "page/dom";
+import { declaredNames } from "page/wgsl";
 
-const OURS = "WGSL’s own rules", PORTED = "Rules of the crate wgsl-types";
+const OURS = "WGSL’s own rules", PORTED = "Rules of the crate wgsl-types", SHADER = "WGSL’s own rules, in the shader above";
+const HIDDEN = "No type: an error in the shader hides it.";
+
+/** Whether a request has a name that the shader declares. */
+export function namesShader(text, shader) {
+  const names = declaredNames(shader);
+  return text.split(/[^\p{XID_Continue}]+/u).some((word) => names.has(word));
+}
+
+/** The answers to a request with names of the shader: to an expression there; else to the request by itself. */
+export async function answersIn(shader, text) {
+  const asked = text.trim().replace(/^type\s+/, "").toWellFormed(), outcome = await typeIn(shader, asked);
+  if (outcome === null) return shownOf(SHADER, { asked, text: HIDDEN, isAnswer: false, at: null });
+  const { type, stage, fault, at } = outcome;
+  const note = [h("p", { className: "overload" }, `${stage} expression`)];
+  if (type) return shownOf(SHADER, { asked, text: type, isAnswer: true, at: null }, note);
+  const { kind, message, notes = [] } = fault, reasons = kind === "overload" ? notes.map((reason) => reason.message) : [];
+  if (kind === "syntax") return answersTo(text);
+  return [...shownOf(SHADER, { asked, text: message, isAnswer: false, at }), ...whyOf("Why no overload takes the operands", reasons)];
+}
 
 /** The answers to a text, as elements. `type` may be left out in front of an expression. */
 export function answersTo(text) {
@@ -24,8 +45,11 @@ function ofExpression(expression, typed) {
   const [resolved, why] = ["resolve ", "why "].map((command) => outcomeOf(standardAnswer, command, expression));
   const note = typed.isAnswer && resolved.isAnswer ? [h("p", { className: "overload" }, `Overload ${resolved.text.replace(" ", ": ")}`)] : [];
   const title = typed.isAnswer ? "Why other overloads don’t take the operands" : "Why no overload takes the operands";
-  const reasons = why.isAnswer && why.text !== "none" ? why.text.split("\n").map(rowOf) : [];
-  return [...shownOf(OURS, typed, note), ...(reasons.length ? [h("div", { className: "why" }, h("h3", {}, title), h("ol", {}, ...reasons))] : [])];
+  return [...shownOf(OURS, typed, note), ...whyOf(title, why.isAnswer && why.text !== "none" ? why.text.split("\n") : [])];
+}
+
+function whyOf(title, lines) {
+  return lines.length ? [h("div", { className: "why" }, h("h3", {}, title), h("ol", {}, ...lines.map(rowOf)))] : [];
 }
 
 /** A line of `why`: the signature of an overload, and the reason. */

@@ -1,5 +1,8 @@
-// The text in colours, under the textarea, whose own letters can't be seen. Only the lines near to those in view are drawn.
+// The text in colours, under the textarea, whose own letters can't be seen, and the types of `let`s. Only the lines near to those in view
+// are drawn.
+import { letsOf } from "page/checked";
 import { colored, declaredTypes } from "page/colors";
+import { h } from "page/dom";
 import { commentsOf } from "page/wgsl";
 
 const at = (id) => document.getElementById(id), source = at("source");
@@ -26,6 +29,20 @@ function draw() {
   drawn = [Math.max(0, first - NEAR), Math.min(starts.length, last + NEAR)];
   colors.style.paddingTop = `${drawn[0] * 1.25 + 0.75}rem`;
   colors.replaceChildren(...colored(text, declared, comments, starts[drawn[0]] ?? text.length, starts[drawn[1]] ?? text.length));
+  showHints();
+}
+
+export const topOf = (line) => `top:${(line - 1) * 1.25 + 0.75}rem`;
+
+/** Shows the types of `let`s behind their lines, if they are wanted. */
+export function showHints() {
+  const text = source.value, [first, behind] = drawn, lets = at("types").checked ? letsOf(text) : [];
+  const lines = Map.groupBy(lets, ({ index }) => starts.findLastIndex((start) => start <= index));
+  const near = [...lines].filter(([line]) => line >= first && line < behind);
+  at("hints").replaceChildren(...near.map(([line, lets]) => {
+    const told = lets.length === 1 ? `: ${lets[0].type}` : lets.map(({ name, type }) => `${name}: ${type}`).join(", ");
+    return h("div", { style: topOf(line + 1) }, text.slice(starts[line], (starts[line + 1] ?? text.length + 1) - 1), h("span", {}, told));
+  }));
 }
 
 /** Moves the colours to where the text is scrolled to. */
@@ -33,7 +50,7 @@ export function followColors() {
   view = { line: parseFloat(getComputedStyle(source).lineHeight), top: source.scrollTop, height: source.clientHeight };
   const [first, last] = linesInView();
   if (first < drawn[0] || last > drawn[1]) draw();
-  at("colors").style.transform = `translate(${-source.scrollLeft}px, ${-source.scrollTop}px)`;
+  for (const layer of ["colors", "hints"]) at(layer).style.transform = `translate(${-source.scrollLeft}px, ${-source.scrollTop}px)`;
 }
 
 new ResizeObserver(followColors).observe(source);

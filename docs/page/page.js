@@ -1,12 +1,15 @@
 // The page: a text on the left, what it lays out on the right, and the calculator below.
 import { SourceError, code, layouts } from "wgsl-types-proved";
 import { hashOf, stateOf } from "page/address";
-import { answersTo } from "page/calculator";
+import { answersIn, answersTo, namesShader } from "page/calculator";
 import { newBrokenCard, newCard, newNote, spaceOf, typed } from "page/card";
+import { check, faultsOf } from "page/checked";
 import { colored } from "page/colors";
 import { counted, h, replaceChildren } from "page/dom";
+import { showColors, showHints } from "page/editor";
 import { examples, tries } from "page/examples";
-import { follow, showProblems } from "page/problems";
+import { tellCaret, watch } from "page/pointed";
+import { follow, problemsOf, showProblems } from "page/problems";
 import { foreignOf, leftOut } from "page/wgsl";
 
 const at = (id) => document.getElementById(id);
@@ -31,16 +34,33 @@ function read(text) {
 
 function tellProblems() {
   told = read(source.value);
-  const { structs, variables, errors, findings } = told, numbers = [];
+  const { structs, variables, errors } = told;
   broken = errors.length ? leftOut(source.value, told) : NONE;
   foreign = errors.length && structs.length + variables.length === 0 ? foreignOf(source.value) : null;
+  showColors();
+  tellFaults();
+  delete document.documentElement.dataset.checked;
+  check(source.value, whenChecked);
+}
+
+function whenChecked(isNewest) {
+  tellFaults();
+  showHints();
+  if (isAboutShader || namesShader(request.value, source.value)) ask();
+  if (isNewest) document.documentElement.dataset.checked = "";
+}
+
+/** What is wrong: what the layouts say of this text, and what the check said of it last. */
+function tellFaults() {
+  const problems = problemsOf(told, faultsOf(source.value)), { errors, findings } = problems, { structs, variables } = told, numbers = [];
   if (foreign) numbers.push(`looks like ${foreign.language}`);
   else numbers.push(counted(structs.length, "struct"), counted(variables.length, "variable"));
   if (broken.count) numbers.push(`${broken.count.toLocaleString("en")} left out`);
   if (errors.length) numbers.push(counted(errors.length, "error"));
   if (findings.length) numbers.push(counted(findings.length, "finding"));
   at("counts").textContent = numbers.join(" · ");
-  showProblems(told);
+  showProblems(problems);
+  tellCaret();
 }
 
 function drawAll(wanted = wantedCards()) {
@@ -168,8 +188,15 @@ async function copy(text, what) {
 
 // The calculator.
 
-function ask() {
-  at("answers").replaceChildren(...answersTo(request.value));
+let asks = 0, isAboutShader = false;
+
+/** Answers at once, unless the request has names of the shader. */
+async function ask() {
+  const number = ++asks, asked = request.value;
+  isAboutShader = namesShader(asked, source.value);
+  const answers = isAboutShader ? await answersIn(source.value, asked) : answersTo(asked);
+  if (number !== asks) return;
+  at("answers").replaceChildren(...answers);
 }
 
 // The state of the page is its address.
@@ -256,6 +283,8 @@ addTabs();
 fill((await stateOf(location.hash)) ?? [Object.values(examples)[0]]);
 source.addEventListener("input", changed);
 source.addEventListener("scroll", follow, { passive: true });
+at("types").addEventListener("change", showHints);
+watch(() => told.structs);
 request.addEventListener("input", () => (ask(), save()));
 at("share").addEventListener("click", async () => {
   await saveNow();

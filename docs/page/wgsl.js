@@ -5,6 +5,8 @@ const STRUCT = new RegExp(`(?<!\\p{XID_Continue})struct\\s+(${WORD})`, "gu");
 const BOUND = new RegExp(`@(?:group|binding)\\s*\\([^;{}]{0,200}?\\bvar\\s*(?:<[^>;]{0,50}>)?\\s*${WORD}\\s*:([^;={}]*)`, "gu");
 const SHOWN_LEFT_OUT = 100;
 const EVERY_WORD = new RegExp(WORD, "gu");
+const LET = new RegExp(`(?<!\\p{XID_Continue})let\\s+(${WORD})\\s*=\\s*([^;]*?)\\s*;`, "dgu");
+const DECLARED = new RegExp(`(?<!\\p{XID_Continue})(?:fn|struct|alias|override|const|var(?:\\s*<[^>;{}]*>)?)\\s+(${WORD})`, "gu");
 
 /** Where comments stand, as pairs of indices. */
 export function commentsOf(text) {
@@ -56,6 +58,18 @@ export function leftOut(text, { structs, errors }) {
 /** The names in the types of variables that are bound. */
 function boundNames(plain) {
   return new Set([...plain.matchAll(BOUND)].flatMap(([, type]) => type.match(EVERY_WORD) ?? []));
+}
+
+/** The `let`s without a type: where the name stands, and from where to where the initializer does. */
+export function letsOf(text) {
+  return Array.from(withoutComments(text).matchAll(LET), ({ 1: name, indices: { 1: [index, end], 2: [start, stop] } }) =>
+    ({ name, index, end: { index: end }, start, stop }));
+}
+
+/** The names that a text declares, but for `let`s and parameters, and where each is declared first. */
+export function declaredNames(text) {
+  const found = [...withoutComments(text).matchAll(DECLARED)].reverse();
+  return new Map(found.map(({ 0: words, 1: name, index }) => [name, index + words.length - name.length]));
 }
 
 // Words that only one language has, with what WGSL writes. `$1` is a part of the word.

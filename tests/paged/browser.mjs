@@ -88,8 +88,11 @@ export async function serve(file) {
   return { url: `http://127.0.0.1:${server.address().port}/`, close: () => server.close() };
 }
 
-// What a page is told to do: to have a text, or a request; and what it shows.
+// What a page is told to do: to have a text, until it is checked and drawn, or a request; and what it shows.
 export const fill = (text) => `{ const source = document.getElementById("source"); source.focus(); source.value = ${JSON.stringify(text)};
-  source.dispatchEvent(new Event("input")); new Promise((done) => requestAnimationFrame(() => setTimeout(done, 200))) }`;
+  source.dispatchEvent(new Event("input")); new Promise((done) => requestAnimationFrame(() => setTimeout(function wait() {
+    if (document.documentElement.dataset.checked === undefined) setTimeout(wait, 10);
+    else done();
+  }, 200))) }`;
 export const ask = (text) => `{ const request = document.getElementById("request"); request.value = ${JSON.stringify(text)}; request.dispatchEvent(new Event("input")) }`;
 export const texts = (selector) => `[...document.querySelectorAll(${JSON.stringify(selector)})].map((element) => element.textContent)`;

@@ -6,6 +6,7 @@ import { tmpdir } from "node:os";
 import { join } from "node:path";
 import { test, before, after } from "node:test";
 import { pathToFileURL } from "node:url";
+import { check } from "wgsl-types-proved";
 import { ask, fill, openBrowser, serve, texts } from "./browser.mjs";
 
 const { PAGE, TOP } = process.env, SOURCED = join(TOP, "tests/sourced");
@@ -118,13 +119,13 @@ test("texts have a contrast of 4.5 or more, in light and dark", async () => {
       const behind = (element) => { for (; element; element = element.parentElement) { const color = rgba(getComputedStyle(element).backgroundColor); if (color[3] === 255) return color; } return [255, 255, 255] };
       const found = [];
       for (const element of document.querySelectorAll("body *")) {
-        if (element.closest("#marks, .toast, .skip, select, noscript") || ![...element.childNodes].some((node) => node.nodeType === 3 && node.data.trim())) continue;
+        if (element.matches("#hints div") || element.closest("#marks, .toast, .skip, select, noscript") || ![...element.childNodes].some((node) => node.nodeType === 3 && node.data.trim())) continue;
         const [a, b] = [light(rgba(getComputedStyle(element).color)), light(behind(element))].sort((x, y) => y - x), contrast = (a + 0.05) / (b + 0.05);
         if (contrast < 4.5) found.push(element.tagName + "." + element.className + " " + contrast.toFixed(2) + " " + element.textContent.slice(0, 20));
       }
       return found;
     })()`;
-    for (const text of ["struct S { a: f32, b: vec3f, c: f32, d: f32, e: f32, f: f32, g: f32, h: f32, i: u32, x: mat4x4f, y: array<f32, 900> } struct B { b: S, c: nowhere } struct C { b: B }\nbad // a comment",
+    for (const text of ["struct S { a: f32, b: vec3f, c: f32, d: f32, e: f32, f: f32, g: f32, h: f32, i: u32, x: mat4x4f, y: array<f32, 900> } struct B { b: S, c: nowhere } struct C { b: B } fn f() { let a = 1; if a {} }\nbad // a comment",
       "cbuffer C { float4x4 m; };", "", "@group(0) @binding(0) var<uniform> a: array<f32, 4>;"]) {
       await page.run(fill(text));
       await page.run(ask(text ? "vec3f + 1" : "f32 + (1 + bool)"));
@@ -269,4 +270,132 @@ test("no text stops the page", async () => {
     await page.run(fill(text));
     assert.deepEqual(page.errors, [], text.slice(0, 60));
   }
+});
+
+const SHADER = `alias Color = vec3f; struct Light { color: Color, power: f32 }
+struct Globals { lights: array<Light, COUNT>, exposure: f32 }
+const COUNT = 2 + 2; override SCALE: f32 = 1; @group(0) @binding(0) var<uniform> globals: Globals;
+fn lit(light: Light, normal: vec3f) -> vec3f { return light.color * normal.x; }
+@fragment fn main(@location(0) at: vec3f) -> @location(0) vec4f {
+  let near = &globals.lights[1]; // one
+  let sum = lit(*near, at) * SCALE; let power = (*near).power; let half = 0.5;
+  { let sum = near.color.x; _ = sum; }
+  return vec4f(sum * half, power);
+}
+`;
+const HINTS = `[...document.querySelectorAll("#hints div")].map(({ style, lastChild }) => [(parseFloat(style.top) + 0.5) / 1.25, lastChild.textContent])`;
+const SELECTED = "[source.selectionStart, source.selectionEnd]";
+
+/** Where a word stands in SHADER among what is around it: `a|b|c` is that of the `b` in `abc`. */
+function placeOf(marked) {
+  const [before, word, behind] = marked.split("|"), at = SHADER.indexOf(before + word + behind);
+  assert.ok(at >= 0, marked);
+  return [at + before.length, at + before.length + word.length];
+}
+
+/** Where the middle of a character is on the screen. */
+const middleOf = (page, index) => page.run(`(() => { const before = source.value.slice(0, ${index}).split("\\n"), { fontSize, fontFamily } = getComputedStyle(source);
+  const box = source.getBoundingClientRect(), canvas = document.createElement("canvas").getContext("2d");
+  canvas.font = fontSize + " " + fontFamily;
+  return { x: box.left + 8 + (before.at(-1).length + 0.5) * canvas.measureText("m").width, y: box.top + 2 + before.length * 20 } })()`);
+const mouse = async (page, type, index, more) => page.call("Input.dispatchMouseEvent", { type, ...(await middleOf(page, index)), ...more });
+const settle = (page) => page.run("new Promise((done) => requestAnimationFrame(() => setTimeout(done, 20)))");
+
+test("each fault is marked where it stands, and in the list with its notes, which lead to places; what the layouts tell too is told once", async () => {
+  const page = await opened({ height: 2000 }), added = "\nfn f(a: f32) -> f32 { let x = vec3f(1) * true; }\nfn f() { if 1 { } } struct B { c: Q } const a = 1u + true; var<private> b: array<f32, a>;";
+  const shader = readFileSync(join(SOURCED, "faults.wgsl"), "utf8") + added;
+  await page.run(fill(shader));
+  const marks = await page.run(`[...document.querySelectorAll("#marks span")].map((mark) => [mark.textContent, mark.getBoundingClientRect().left, mark.getBoundingClientRect().top])`);
+  for (const { index, end, message } of check(shader).faults) {
+    const word = shader.slice(index, end.index).split("\n")[0] || " ", { x, y } = await middleOf(page, index);
+    assert.ok(marks.some(([marked, left, top]) => word.startsWith(marked) && left < x && x < left + 9 && top < y && y < top + 20), `${message}: ${word}`);
+  }
+  await page.run(fill(added));
+  assert.match(await page.run("counts.textContent"), / 6 errors$/);
+  assert.deepEqual((await page.run(texts("#problems .place"))), ["2:40", "2:48", "3:4", "3:13", "3:35", "3:52"]);
+  const notes = await page.run(texts("#problems .notes > *")), reason = (shape, argument) => `${shape}, T: number: argument ${argument}`;
+  assert.deepEqual(notes.slice(3, 6), ["and 5 more", "2:4 f is declared here", reason("+(T, T) -> T", "2 is bool")]);
+  await page.run(`source.value = "\\n" + source.value; source.dispatchEvent(new Event("input")); new Promise((done) => requestAnimationFrame(done))`);
+  for (const [part, place] of [[".notes button", [5, 6]], ["li:nth-child(3) .problem", [54, 55]]]) {
+    await page.run(`document.querySelector("#problems ${part}").focus()`);
+    await page.until("document.documentElement.dataset.checked !== undefined");
+    await page.press("Enter");
+    assert.deepEqual(await page.run(SELECTED), place, part);
+  }
+});
+
+test("the pointer and the caret are told the innermost expression's type and stage, and what is wrong", async () => {
+  const page = await opened(), pointed = async (index) => (await mouse(page, "mouseMoved", index), await settle(page), page.run("tip.hidden ? null : tip.textContent"));
+  const told = async (index) => (await page.run(`source.focus(), source.setSelectionRange(${index}, ${index})`), await settle(page), page.run("caret.textContent"));
+  await page.run(fill(SHADER));
+  for (const [place, wanted] of [
+    ["&|globals|.", "globals: ref<uniform, Globals, read>, runtime expression"], [" = |&|glo", "&globals.lights[1]: ptr<uniform, Light, read>, runtime expression"],
+    ["globals.|lights|[", "globals.lights: ref<uniform, array<Light, 4>, read>, runtime expression"], ["2 |+| 2", "2 + 2: AbstractInt, const expression"],
+    ["* |SCALE|;", "SCALE: f32, override expression"], ["|lit|(*n", "lit(*near, at): vec3<f32>, runtime expression"],
+    ["|near| =", "near: ptr<uniform, Light, read>, runtime expression"], ["// |o|ne", null], ["|return| vec4f", null], ["|struct| G", null],
+  ]) {
+    const [start] = placeOf(place);
+    assert.deepEqual([await pointed(start), await told(start)], [wanted, wanted ?? "The type at the caret. F12 leads to a declaration."], place);
+  }
+  assert.deepEqual([await pointed(placeOf(";| |//")[0]), await told(placeOf("|SCALE|;")[1])], [null, "SCALE: f32, override expression"]);
+  await page.run(fill("fn f() { let a = true + 1; }"));
+  assert.match(await pointed(22), /^error no overload takes these operands\+\(T, T\) -> T, T: number: argument 1 is bool.*and 1 more$/);
+  assert.equal(await told(22), "error no overload takes these operands");
+  await page.press("Escape");
+  assert.equal(await page.run("tip.hidden"), true);
+});
+
+test("F12 at the caret and a click with Ctrl lead from a name to its declaration", async () => {
+  const page = await opened();
+  await page.run(fill(SHADER));
+  for (const [from, to] of [
+    ["(*|near|, at)", "let |near| ="], ["near, |at|)", "(0) |at|:"], ["|lit|(*near", "fn |lit|("], ["&|globals|", "> |globals|:"], ["* |SCALE|;", "override |SCALE|:"],
+    [", |COUNT|>", "const |COUNT| ="], ["array<|Light|,", "struct |Light| {"], ["color: |Color|", "alias |Color| ="], ["globals.|lights|[", "{ |lights|:"],
+    ["(*near).|power|", ", |power|:"], ["near.|color|.x", "{ |color|:"], ["light.|color| *", "{ |color|:"], ["_ = |sum|;", "{ let |sum| = near"],
+    ["vec4f(|sum| *", "let |sum| = lit"], ["normal.|x|;", null], ["return |vec4f|(", null], ["|// |one", null],
+  ]) {
+    const [start, end] = placeOf(from), wanted = to && placeOf(to);
+    await page.run(`source.focus(), source.setSelectionRange(${start + 1}, ${start + 1})`);
+    await page.press("F12");
+    assert.deepEqual(await page.run(SELECTED), wanted ?? [start + 1, start + 1], from);
+    for (const type of ["mousePressed", "mouseReleased"]) await mouse(page, type, end - 1, { button: "left", clickCount: 1, modifiers: 2 });
+    const found = await page.run(SELECTED);
+    assert.deepEqual(found, wanted ?? [found[0], found[0]], from);
+  }
+});
+
+test("the types of lets stand behind their lines, and can be switched off; faults and they move with the text before it is checked", async () => {
+  const page = await opened(), text = "fn f() {\n  let a = 1u;\n  let b = a + true; let c = a;\n}\n";
+  await page.run(fill(SHADER));
+  const { x, y } = await middleOf(page, SHADER.indexOf("// one") + 5), box = await page.run(`document.querySelector("#hints span").getBoundingClientRect().toJSON()`);
+  assert.deepEqual(await page.run(HINTS), [[6, ": ptr<uniform, Light, read>"], [7, "sum: vec3<f32>, power: f32, half: f32"], [8, ": f32"]]);
+  assert.ok(x < box.left && box.left < x + 40 && box.top < y && y < box.bottom, JSON.stringify(box));
+  for (const count of [0, 3]) assert.equal(await page.run(`types.click(), document.querySelectorAll("#hints div").length`), count);
+  await page.run(fill("fn f() {\nlet a: f32 = 1;\nlet b = 1u + true;\nlet c = 1u /* ; */ + 2;\nlet d = frexp(1.5);\nlet e = array(vec2(1), vec2(2));\nlet i /**/ = (1.5); let let1 = 2; }\nfn k() { let j = 1; let l = ; }"));
+  assert.deepEqual(await page.run(HINTS), [[4, ": u32"], [5, ": __frexp_result_f32"], [6, ": array<vec2<i32>, 2>"], [7, "i: f32, let1: i32"]]);
+  for (const [from, to, hints, marks] of [["fn", "\n\nfn", [4, 5], ["5.75rem+"]], ["1u;", "1u\n;", [2, 4], ["4.5rem+"]], ["+", "-", [2, 3], []]]) {
+    await page.run(fill(text));
+    assert.deepEqual(await page.run(`new Promise((done) => { source.value = ${JSON.stringify(text.replace(from, to))}; source.dispatchEvent(new Event("input")); requestAnimationFrame(() =>
+      done([document.documentElement.dataset.checked ?? null, ${HINTS}, [...document.querySelectorAll("#marks div")].map(({ style, lastChild }) => style.top + lastChild.textContent)])) })`), [null, hints.map((line) => [line, ": u32"]), marks]);
+  }
+});
+
+test("the calculator types expressions with names of the shader, broken or not", async () => {
+  const page = await opened(), shader = "WGSL’s own rules, in the shader above", good = ["globals.lights[0].color * 2", shader, "vec3<f32>", "runtime expression", ""];
+  const shown = async (request) => (await page.run(ask(request)), await settle(page), page.run(`[".verdict h3", ".verdict .answer", ".verdict .overload", ".request"].map((part) => document.querySelector("#answers " + part)?.textContent ?? "")`));
+  for (const more of ["", "\nfn g() { let a = ;", "\nfn g() {", "struct X { a: nowhere }", "\nconst y = 1u + true;", "\n@group(0) var<uniform>", "\n// no line feed"]) {
+    await page.run(fill(SHADER + more));
+    for (const [request, ...wanted] of [good, ["type COUNT + 1", shader, "AbstractInt", "const expression", ""], ["SCALE // half", shader, "f32", "override expression", ""], ["lit(Light(), vec3f(1)).zyx", shader, "vec3<f32>", "runtime expression", ""]]) assert.deepEqual(await shown(request), wanted, request + more);
+  }
+  for (const [request, ...wanted] of [
+    ["2 * Globals", shader, "Globals is no value", "", "2 * Globals\n    ^"], ["SCALE * ", "", "", "", "SCALE *\n       ^ expected an operand"], ["1; } fn x() { _ = SCALE", "", "", "", "1; } fn x() { _ = SCALE\n   ^ expected an operator or the end"],
+    ["struct Light { a: f32 } type Light.a * 2", "WGSL’s own rules", "f32", "", ""], ["SCALE + true", shader, "no overload takes these operands", "", "SCALE + true\n      ^"],
+  ]) assert.deepEqual(await shown(request), wanted, request);
+  assert.equal((await page.run(texts(".why li")))[0], "+(T, T) -> T, T: numberargument 2 is bool");
+  await shown(good[0]);
+  for (const [changed, answer] of [[`enable f16;${SHADER.replace("vec3f;", "vec3h;")}`, "vec3<f16>"], [`${SHADER}#`, "No type: an error in the shader hides it."]]) {
+    await page.run(fill(changed));
+    await page.until(`document.querySelector(".verdict .answer").textContent === ${JSON.stringify(answer)}`);
+  }
+  assert.deepEqual(page.errors, []);
 });

@@ -1,0 +1,38 @@
+// docs/monaco.js, with a stand-in for Monaco.
+import assert from "node:assert/strict";
+import test from "node:test";
+import { addWgsl } from "page/monaco";
+
+const providers = {}, markers = [], TEXT = "// é🦀\nfn lit(a: vec3<f32>, b: array<vec2f, 2>) {}\nfn f(v: vec3f) { let c = mix(v, v, true) * 2; lit(v, array(v.xy, v.yz)); }";
+let change = null;
+const modelOf = (text) => ({
+  getLanguageId: () => "wgsl", getValue: () => text, getOffsetAt: (offset) => offset, onDidChangeContent: (listener) => (change = listener),
+  getPositionAt: (offset) => ({ lineNumber: text.slice(0, offset).split("\n").length, column: offset - text.lastIndexOf("\n", offset - 1) }),
+});
+const register = (_, provider) => Object.assign(providers, provider), other = { getLanguageId: () => "glsl" };
+addWgsl({
+  MarkerSeverity: { Error: 8 }, languages: { register() {}, registerHoverProvider: register, registerSignatureHelpProvider: register },
+  editor: { getModels: () => [modelOf(TEXT)], onDidCreateModel: (listener) => listener(other), setModelMarkers: (_, language, found) => markers.push(found) },
+});
+
+test("faults are markers, with notes, again after a change, and only of WGSL", () => {
+  change();
+  assert.deepEqual(markers[1], markers[0]);
+  const [[{ message, relatedInformation: [note], ...more }, ...others], , ...none] = markers, place = { startLineNumber: 3, startColumn: 26, endLineNumber: 3, endColumn: 29 };
+  assert.deepEqual([message, others, none, more], ["no overload takes these operands", [], [], { severity: 8, code: "overload", ...place }]);
+  assert.deepEqual(note, { resource: undefined, message: "mix(vecN<T>, vecN<T>, vecN<T>) -> vecN<T>, T: float: argument 3 is bool", ...place });
+});
+
+test("the innermost expression has its type in a hover, a call its signatures and the parameter that comes next", () => {
+  assert.equal(providers.provideHover(modelOf(TEXT), TEXT.indexOf("yz")).contents[0].value, "`vec2<f32>`, runtime");
+  assert.equal(providers.provideHover(modelOf(TEXT), 0), undefined);
+  for (const [text, label, parameters, active] of [
+    ["let a = mix(vec3f(1, 2, 3), b[1, 2], ", "mix(T, T, T) -> T, T: float", ["T", "T", "T"], 2],
+    ["arrayLength(", "arrayLength(ptr<storage, array<E>, A>) -> u32, E: type, A: read or read_write", ["ptr<storage, array<E>, A>"], 0],
+    ["max(max(1, 2), ", "max(T, T) -> T, T: number", ["T", "T"], 1], ["vec3(v.xy, ", "vec3(T, T, T) -> vec3<T>, T: scalar", ["T", "T", "T"], 1], ["storageBarrier(", "storageBarrier()", [], 0],
+  ]) {
+    const { signatures, activeSignature, activeParameter } = providers.provideSignatureHelp(modelOf(`fn f() { ${text}`), 9 + text.length).value, found = signatures[activeSignature];
+    assert.deepEqual([found.label, found.parameters.map(({ label: [start, end] }) => found.label.slice(start, end).trim()), activeParameter], [label, parameters, active]);
+  }
+  for (const none of ["", "g(", "(", "if(", "max(1, 2); "]) assert.equal(providers.provideSignatureHelp(modelOf(`fn f() { ${none}`), 9 + none.length), null, none);
+});
