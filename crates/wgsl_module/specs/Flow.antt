@@ -1,27 +1,38 @@
 -- Statements that are open, the innermost first, and where control goes on from what is read of them (WGSL, "Control Flow",
 -- "Behaviors").
 use Rattle.std.specs.Prelude.{List, [], ◌∷◌, Bool, true, false, Option, Some, None, map, reverse}
-use Rattle.wgsl_module.specs.Behaviours.{Behaviour, continued_by, either, followed_by, goes_on}
+use Rattle.wgsl_module.specs.Behaviours.{Behaviour, continued_by, either, followed_by, goes_on, nowhere}
 use Rattle.wgsl_module.specs.Views.{behaviour_view}
 use Rattle.wgsl_module.specs.declared.flow.Flow.{Flow}
+use Rattle.wgsl_module.specs.declared.frame.Around.{Around as CodeAround}
 use Rattle.wgsl_module.specs.declared.frame.Frame.{Frame as CodeFrame}
 use Rattle.wgsl_module.specs.declared.frame.Frame.TheVariants as frames
 use Rattle.wgsl_reader.specs.declared.kind.Kind.{Kind}
 
+-- what is around a statement
+pub record Around : Type 0 where
+  pub may_break : Bool
+  pub may_continue : Bool
+  pub in_continuing : Bool
+
 pub data Frame : Type 0 where
-  -- a statement with blocks, by its word, and whether it has a condition
-  begun : Kind → Bool → Frame
+  -- a statement with blocks, by its word; what is around it, and whether it has a condition
+  begun : Kind → Around → Bool → Frame
   -- a block that is open, by what the statements in it do so far
   a_block : Behaviour → Frame
   -- a block that is closed
   a_body : Behaviour → Frame
-  -- an `if` with its `else`
+  -- an `if` with its `else`, or the clauses of a `switch` so far
   a_choice : Behaviour → Frame
   -- the value behind `return` is read
   returned : Frame
 
+-- Which names a `continue` skips is no part of it.
+abbrev pub around_view : CodeAround → Around
+around_view a = record { may_break = a.may_break; may_continue = a.may_continue; in_continuing = a.in_continuing }
+
 abbrev pub frame_view : CodeFrame → Frame
-frame_view (frames.Begun word around has_condition) = begun word has_condition
+frame_view (frames.Begun word around has_condition) = begun word (around_view around) has_condition
 frame_view (frames.Block b) = a_block (behaviour_view b.behaviour)
 frame_view (frames.Body b) = a_body (behaviour_view b)
 frame_view (frames.Choice b) = a_choice (behaviour_view b)
@@ -29,6 +40,10 @@ frame_view frames.Returned = returned
 
 abbrev pub flow_view : Flow → List Frame
 flow_view flow = map frame_view (reverse flow.frames.items)
+
+abbrev pub are_none : List Frame → Bool
+are_none [] = true
+are_none (f ∷ fs) = false
 
 abbrev pub first : {A : Type 0} → List A → Option A
 first [] = None
@@ -59,6 +74,11 @@ if_on (a_choice b ∷ fs) = b
 if_on (a_body b ∷ fs) = either b goes_on
 if_on fs = goes_on
 
+-- the clauses on top
+abbrev pub clauses_on : List Frame → Behaviour
+clauses_on (a_choice b ∷ fs) = b
+clauses_on fs = nowhere
+
 abbrev pub is_block : List Frame → Bool
 is_block (a_block b ∷ fs) = true
 is_block fs = false
@@ -74,13 +94,13 @@ with_body b (a_block a ∷ fs) = a_block (followed_by a b) ∷ fs
 with_body b fs = a_body b ∷ fs
 
 -- the statement on top
-abbrev pub begun_on : List Frame → Option (Kind × Bool)
-begun_on (begun word has_condition ∷ fs) = Some (word, has_condition)
+abbrev pub begun_on : List Frame → Option (Kind × Around × Bool)
+begun_on (begun word around has_condition ∷ fs) = Some (word, around, has_condition)
 begun_on fs = None
 
 -- `while c`, `for (; c;)`
 abbrev pub with_condition : List Frame → List Frame
-with_condition (begun word has_condition ∷ fs) = begun word true ∷ fs
+with_condition (begun word around has_condition ∷ fs) = begun word around true ∷ fs
 with_condition fs = fs
 
 -- `continuing { }`: what the body does with it

@@ -1,4 +1,5 @@
 pub mod Behaviours
 pub mod Declarations
 pub mod Flow
+pub mod Statements
 pub mod Views

@@ -1,23 +1,26 @@
 // Statements with blocks (WGSL, "Control Flow", "Behaviors").
-ghost use Rattle.std.specs.Prelude.{◌≡◌, IfOk};
-ghost use Rattle.wgsl_module.specs.Flow.{begun_on, below, ended, flow_view};
+ghost use Rattle.std.specs.Prelude.{◌≡◌, ◌∷◌, ◌&&◌, IfOk, is_some, option_map};
+ghost use Rattle.wgsl_module.specs.Behaviours.{goes_on, may_break, never_ends};
+ghost use Rattle.wgsl_module.specs.Flow.{a_block, around_view, begun_on, below, ended, flow_view, with_condition, with_else};
+ghost use Rattle.wgsl_module.specs.Statements.{began, block_closed, continuing_ended, goes_nowhere, if_ended, inside, loop_ended, loop_on, may_fall_off, outside_of};
 ghost use Rattle.wgsl_module.specs.Views.{behaviour_view};
+ghost use Rattle.wgsl_names.specs.Faults.{IsToldIf, last_of};
+ghost use Rattle.wgsl_typing.specs.Words.{kind_at};
 
 use crate::behaviour::Behaviour;
 use crate::checker::Checker;
-use crate::frame::{Around, Block, Frame, Switch};
+use crate::frame::{Around, Block, Frame};
 use std::alloc::AllocError;
-use std::collections::BTreeSet;
-use wgsl_core::ty::Type;
-use wgsl_forms::switch::switch_type;
-use wgsl_names::fault::{Place, Rule};
+use wgsl_names::fault::Rule;
 use wgsl_reader::kind::Kind;
-use wgsl_standard::operand::Operand;
-use wgsl_typing::expression::shown;
 
 impl<'t> Checker<'t> {
     /// The word of a statement that has blocks, or what stands in front of the body of a function.
-    pub fn begin(&mut self, count: usize) -> Result<(), AllocError> {
+    pub fn begin(&mut self, count: usize) -> Result<(), AllocError>
+        ensures flow { IfOk result (λ u. flow_view self.new.flow ≡ began (kind_at self.old.expressions.tokens.now count) (around_view self.old.around) (flow_view self.old.flow)) }
+        ensures around { IfOk result (λ u. around_view self.new.around ≡ inside (kind_at self.old.expressions.tokens.now count) (around_view self.old.around)) }
+        ensures faults { self.new.expressions.faults ≡ self.old.expressions.faults }
+    {
         let word = self.expressions.token_before(count).kind;
         let outside = self.around;
         let inside = match word {
@@ -48,6 +51,7 @@ impl<'t> Checker<'t> {
 
     /// Goes into a statement, or out of it: this is around from now on.
     pub fn go(&mut self, around: Around)
+        ensures around { self.new.around ≡ around }
         ensures flow { self.new.flow ≡ self.old.flow }
         ensures faults { self.new.expressions.faults ≡ self.old.expressions.faults }
     {
@@ -73,7 +77,11 @@ impl<'t> Checker<'t> {
         )
     }
 
-    pub fn open_block(&mut self) -> Result<(), AllocError> {
+    pub fn open_block(&mut self) -> Result<(), AllocError>
+        ensures flow { IfOk result (λ u. flow_view self.new.flow ≡ a_block goes_on ∷ flow_view self.old.flow) }
+        ensures around { self.new.around ≡ self.old.around }
+        ensures faults { self.new.expressions.faults ≡ self.old.expressions.faults }
+    {
         if !self.shares_scope() {
             self.expressions.locals.open()?;
         }
@@ -83,7 +91,11 @@ impl<'t> Checker<'t> {
         }))
     }
 
-    pub fn close_block(&mut self, count: usize) -> Result<(), AllocError> {
+    pub fn close_block(&mut self, count: usize) -> Result<(), AllocError>
+        ensures flow { IfOk result (λ u. flow_view self.new.flow ≡ block_closed (flow_view self.old.flow)) }
+        ensures told { IfOk result (λ u. IsToldIf (may_fall_off (flow_view self.old.flow) && is_some self.old.result) Rule.Behaviour (last_of count) self.old.expressions.faults.items self.new.expressions.faults.items) }
+        ensures around { self.new.around ≡ self.old.around }
+    {
         let Some(behaviour) = self.flow.take_block() else {
             return Ok(());
         };
@@ -99,44 +111,63 @@ impl<'t> Checker<'t> {
     /// A statement is read: what it does, the block around it does too.
     pub fn end(&mut self, behaviour: Behaviour) -> Result<(), AllocError>
         ensures flow { IfOk result (λ u. flow_view self.new.flow ≡ ended (behaviour_view behaviour) (flow_view self.old.flow)) }
+        ensures around { self.new.around ≡ self.old.around }
         ensures expressions { self.new.expressions ≡ self.old.expressions }
     {
         self.flow.end(behaviour, self.expressions.locals.len())
     }
 
-    fn take_condition(&mut self) -> Result<(), AllocError> {
+    fn take_condition(&mut self) -> Result<(), AllocError>
+        ensures flow { self.new.flow ≡ self.old.flow }
+        ensures around { self.new.around ≡ self.old.around }
+    {
         let part = self.expressions.take_part()?;
         self.expressions.is_condition(&part)?;
         self.expressions.note(part)
     }
 
     /// The condition of `if`, `while` or `for`.
-    pub fn put_condition(&mut self) -> Result<(), AllocError> {
+    pub fn put_condition(&mut self) -> Result<(), AllocError>
+        ensures flow { IfOk result (λ u. flow_view self.new.flow ≡ with_condition (flow_view self.old.flow)) }
+        ensures around { self.new.around ≡ self.old.around }
+    {
         self.take_condition()?;
         self.flow.put_condition()
     }
 
     /// `break if x;`
-    pub fn break_if(&mut self) -> Result<(), AllocError> {
+    pub fn break_if(&mut self) -> Result<(), AllocError>
+        ensures flow { IfOk result (λ u. flow_view self.new.flow ≡ ended may_break (flow_view self.old.flow)) }
+        ensures around { self.new.around ≡ self.old.around }
+    {
         self.take_condition()?;
         self.end(Behaviour::MAY_BREAK)
     }
 
     /// `else { }`, `else if`
-    pub fn close_else(&mut self) -> Result<(), AllocError> {
+    pub fn close_else(&mut self) -> Result<(), AllocError>
+        ensures flow { IfOk result (λ u. flow_view self.new.flow ≡ with_else (flow_view self.old.flow)) }
+        ensures around { self.new.around ≡ self.old.around }
+        ensures expressions { self.new.expressions ≡ self.old.expressions }
+    {
         self.flow.close_else()
     }
 
-    pub fn close_if(&mut self) -> Result<(), AllocError> {
+    pub fn close_if(&mut self) -> Result<(), AllocError>
+        ensures flow { IfOk result (λ u. flow_view self.new.flow ≡ if_ended (flow_view self.old.flow)) }
+        ensures around { IfOk result (λ u. around_view self.new.around ≡ outside_of (begun_on (below (flow_view self.old.flow))) (around_view self.old.around)) }
+        ensures faults { self.new.expressions.faults ≡ self.old.expressions.faults }
+    {
         let behaviour = self.flow.take_if();
         self.leave();
         self.end(behaviour)
     }
 
     /// The statement on top is read: its word, and whether it has a condition.
-    fn leave(&mut self) -> Option<(Kind, bool)>
-        ensures begun { result ≡ begun_on (flow_view self.old.flow) }
+    pub fn leave(&mut self) -> Option<(Kind, bool)>
+        ensures begun { result ≡ option_map (λ b. (b.0, b.2)) (begun_on (flow_view self.old.flow)) }
         ensures rest { flow_view self.new.flow ≡ below (flow_view self.old.flow) }
+        ensures around { around_view self.new.around ≡ outside_of (begun_on (flow_view self.old.flow)) (around_view self.old.around) }
         ensures faults { self.new.expressions.faults ≡ self.old.expressions.faults }
     {
         let (word, outside, has_condition) = self.flow.leave()?;
@@ -145,174 +176,55 @@ impl<'t> Checker<'t> {
     }
 
     /// `while`, `for`, `loop`
-    pub fn close_loop(&mut self, count: usize) -> Result<(), AllocError> {
+    pub fn close_loop(&mut self, count: usize) -> Result<(), AllocError>
+        ensures flow { IfOk result (λ u. flow_view self.new.flow ≡ loop_ended (flow_view self.old.flow)) }
+        ensures around { IfOk result (λ u. around_view self.new.around ≡ outside_of (begun_on (below (flow_view self.old.flow))) (around_view self.old.around)) }
+        ensures told { IfOk result (λ u. IsToldIf (goes_nowhere (loop_on (flow_view self.old.flow))) Rule.Behaviour (last_of count) self.old.expressions.faults.items self.new.expressions.faults.items) }
+    {
         let body = self.flow.take_body();
         let Some((word, has_condition)) = self.leave() else {
             return Ok(());
         };
-        if has_scope(word) {
-            self.expressions.locals.close()?;
-        }
+        self.close_scope(word)?;
         let behaviour = body.looped(has_condition);
-        if behaviour.never_ends() {
-            self.tell_last(Rule::Behaviour, count, "this loop never ends")?;
-        }
+        self.check_end(behaviour, count)?;
         self.end(behaviour)
     }
 
+    /// Closes the scope that a statement with this word has.
+    fn close_scope(&mut self, word: Kind) -> Result<(), AllocError>
+        ensures flow { self.new.flow ≡ self.old.flow }
+        ensures around { self.new.around ≡ self.old.around }
+        ensures faults { self.new.expressions.faults ≡ self.old.expressions.faults }
+    {
+        if has_scope(word) {
+            self.expressions.locals.close()?;
+        }
+        Ok(())
+    }
+
+    /// A loop that does this ends.
+    fn check_end(&mut self, behaviour: Behaviour, count: usize) -> Result<(), AllocError>
+        ensures told { IfOk result (λ u. IsToldIf (never_ends (behaviour_view behaviour)) Rule.Behaviour (last_of count) self.old.expressions.faults.items self.new.expressions.faults.items) }
+        ensures flow { self.new.flow ≡ self.old.flow }
+        ensures around { self.new.around ≡ self.old.around }
+    {
+        if behaviour.never_ends() {
+            self.tell_last(Rule::Behaviour, count, "this loop never ends")?;
+        }
+        Ok(())
+    }
+
     /// `continuing { }`
-    pub fn close_continuing(&mut self) -> Result<(), AllocError> {
+    pub fn close_continuing(&mut self) -> Result<(), AllocError>
+        ensures flow { IfOk result (λ u. flow_view self.new.flow ≡ continuing_ended (flow_view self.old.flow)) }
+        ensures around { IfOk result (λ u. around_view self.new.around ≡ outside_of (begun_on (below (flow_view self.old.flow))) (around_view self.old.around)) }
+        ensures faults { self.new.expressions.faults ≡ self.old.expressions.faults }
+    {
         let last = self.flow.take_body();
         self.leave();
         self.flow.continue_with(last)
     }
-
-    /// The value behind `switch`.
-    pub fn open_switch(&mut self) -> Result<(), AllocError> {
-        let selector = self.expressions.take_part()?;
-        self.expressions.has_value(&selector)?;
-        let values = Vec::new(self.expressions.alloc);
-        self.switches.push(Switch {
-            selector,
-            values,
-            defaults: 0,
-            clauses: Behaviour::NOWHERE,
-        })?;
-        Ok(())
-    }
-
-    /// A value behind `case`.
-    pub fn put_case_value(&mut self) -> Result<(), AllocError> {
-        let part = self.expressions.take_part()?;
-        self.expressions.has_value(&part)?;
-        if let Some(switch) = self.switches.last_mut() {
-            switch.values.push(part)?;
-        }
-        Ok(())
-    }
-
-    /// `default`, alone or behind `case`.
-    pub fn put_default(&mut self, count: usize) -> Result<(), AllocError> {
-        let mut defaults: usize = 0;
-        if let Some(switch) = self.switches.last_mut() {
-            switch.defaults = switch.defaults.saturating_add(1);
-            defaults = switch.defaults;
-        }
-        match defaults {
-            2 => self.tell_last(Rule::Switch, count, "a second `default`"),
-            _ => Ok(()),
-        }
-    }
-
-    /// `case 1 { }`
-    pub fn close_clause(&mut self) -> Result<(), AllocError> {
-        let body = self.flow.take_body();
-        if let Some(switch) = self.switches.last_mut() {
-            switch.clauses = switch.clauses.or(body);
-        }
-        Ok(())
-    }
-
-    /// `default { }`
-    pub fn close_default(&mut self, count: usize) -> Result<(), AllocError> {
-        self.close_clause()?;
-        self.put_default(count)
-    }
-
-    pub fn close_switch(&mut self, count: usize) -> Result<(), AllocError> {
-        self.leave();
-        let Some(switch) = self.switches.pop() else {
-            return Ok(());
-        };
-        self.check_clauses(&switch, count)?;
-        let behaviour = switch.clauses.switched();
-        self.expressions.note(switch.selector)?;
-        for value in switch.values {
-            self.expressions.note(value)?;
-        }
-        self.end(behaviour)
-    }
-
-    /// There is one `default`, and the values of the cases are of the selector's type, and differ.
-    fn check_clauses(&mut self, switch: &Switch, count: usize) -> Result<(), AllocError> {
-        if switch.defaults == 0 {
-            self.tell_last(Rule::Switch, count, "a switch needs a `default`")?;
-        }
-        if let Some(ty) = self.type_of_switch(switch)? {
-            self.expressions
-                .argument_value(&switch.selector, Some(&ty))?;
-            self.check_values(switch, &ty)?;
-        }
-        Ok(())
-    }
-
-    /// The type of the selector and the values; None if one of them has a fault.
-    fn type_of_switch(&mut self, switch: &Switch) -> Result<Option<Type>, AllocError> {
-        let Some(selector) = switch.selector.typed() else {
-            return Ok(None);
-        };
-        let mut operands = Vec::new(self.expressions.alloc);
-        let mut places = Vec::new(self.expressions.alloc);
-        operands.push(shown(selector))?;
-        places.push(switch.selector.place)?;
-        for value in &switch.values {
-            match value.typed() {
-                Some(typed) => operands.push(shown(typed))?,
-                None => return Ok(None),
-            }
-            places.push(value.place)?;
-        }
-        self.agreed(&operands, &places)
-    }
-
-    /// The integer type of values; None where it is told that they have none, at the first that doesn't agree with those before it.
-    pub fn agreed(
-        &mut self,
-        operands: &[Operand<'_>],
-        places: &[Place],
-    ) -> Result<Option<Type>, AllocError> {
-        let Some((first, rest)) = operands.split_first() else {
-            return Ok(None);
-        };
-        if let Ok(scalar) = switch_type(first, rest) {
-            return Ok(Some(Type::from(scalar)));
-        }
-        let count = first_wrong(first, rest);
-        let refusal = switch_type(first, rest.get(..count).unwrap_or(rest)).err();
-        if let Some(place) = places.get(count) {
-            self.expressions.allows(*place, refusal)?;
-        }
-        Ok(None)
-    }
-
-    fn check_values(&mut self, switch: &Switch, ty: &Type) -> Result<(), AllocError> {
-        let mut seen = BTreeSet::new(self.expressions.alloc);
-        for value in &switch.values {
-            let found = match self.expressions.argument_value(value, Some(ty))? {
-                Some(Some(found)) => found.integer(),
-                _ => None,
-            };
-            if let Some(integer) = found {
-                if !seen.insert(integer.value())? {
-                    return self.tell(Rule::Switch, value.place, "a second case for this value");
-                }
-            }
-        }
-        Ok(())
-    }
-}
-
-/// The index of the first value that doesn't agree with those before it, if one doesn't.
-fn first_wrong(first: &Operand<'_>, rest: &[Operand<'_>]) -> usize {
-    let (mut low, mut high) = (0usize, rest.len());
-    for _ in 0..64 {
-        let middle = low.saturating_add(high.saturating_sub(low) / 2);
-        match switch_type(first, rest.get(..middle).unwrap_or(rest)) {
-            Ok(_) => low = middle.saturating_add(1),
-            Err(_) => high = middle,
-        }
-    }
-    high
 }
 
 /// Whether such a statement opens a scope: `for` that of its variable, `loop` that which its `continuing` sees.

@@ -1,5 +1,5 @@
 // Bodies of functions (WGSL, "Function Declarations").
-ghost use Rattle.std.specs.Prelude.{◌&&◌, IfOk, is_some};
+ghost use Rattle.std.specs.Prelude.{◌≡◌, ◌&&◌, IfOk, is_some};
 ghost use Rattle.wgsl_names.specs.Faults.{IsToldIf, last_of};
 
 use crate::attribute::Owner;
@@ -72,7 +72,9 @@ impl<'t> Checker<'t> {
 
     /// The end of a function's body: each path of a function with a result returns.
     pub fn close_body(&mut self, behaviour: Behaviour, count: usize) -> Result<(), AllocError>
-        ensures { IfOk result (λ u. IsToldIf (behaviour.next && is_some self.old.result) Rule.Behaviour (last_of count) self.old.expressions.faults.items self.new.expressions.faults.items) }
+        ensures told { IfOk result (λ u. IsToldIf (behaviour.next && is_some self.old.result) Rule.Behaviour (last_of count) self.old.expressions.faults.items self.new.expressions.faults.items) }
+        ensures flow { self.new.flow ≡ self.old.flow }
+        ensures around { self.new.around ≡ self.old.around }
     {
         if behaviour.next && self.result.is_some() {
             let message = "this function may end without a `return`";

@@ -1,5 +1,5 @@
 // The state of a check.
-ghost use Rattle.std.specs.Prelude.{IfOk};
+ghost use Rattle.std.specs.Prelude.{◌≡◌, IfOk};
 ghost use Rattle.wgsl_names.specs.Faults.{IsTold, last_of};
 
 use crate::attribute::{Attribute, Attributes, Owner};
@@ -81,14 +81,20 @@ impl<'t> Checker<'t> {
 
     /// Says what is wrong in words that don't depend on the text.
     pub fn tell(&mut self, rule: Rule, place: Place, message: &str) -> Result<(), AllocError>
-        ensures { IfOk result (λ u. IsTold rule place self.old.expressions.faults.items self.new.expressions.faults.items) }
+        ensures told { IfOk result (λ u. IsTold rule place self.old.expressions.faults.items self.new.expressions.faults.items) }
+        ensures flow { self.new.flow ≡ self.old.flow }
+        ensures around { self.new.around ≡ self.old.around }
+        ensures result { self.new.result ≡ self.old.result }
     {
         self.expressions.tell(rule, place, message)
     }
 
     /// Says what is wrong with the last of that many tokens, or with what ends there.
     pub fn tell_last(&mut self, rule: Rule, count: usize, message: &str) -> Result<(), AllocError>
-        ensures { IfOk result (λ u. IsTold rule (last_of count) self.old.expressions.faults.items self.new.expressions.faults.items) }
+        ensures told { IfOk result (λ u. IsTold rule (last_of count) self.old.expressions.faults.items self.new.expressions.faults.items) }
+        ensures flow { self.new.flow ≡ self.old.flow }
+        ensures around { self.new.around ≡ self.old.around }
+        ensures result { self.new.result ≡ self.old.result }
     {
         self.tell(rule, Place::last_of(count), message)
     }
@@ -101,7 +107,10 @@ impl<'t> Checker<'t> {
     }
 
     /// Says what is wrong with a name.
-    pub fn tell_name(&mut self, rule: Rule, count: usize, message: &str) -> Result<(), AllocError> {
+    pub fn tell_name(&mut self, rule: Rule, count: usize, message: &str) -> Result<(), AllocError>
+        ensures flow { self.new.flow ≡ self.old.flow }
+        ensures around { self.new.around ≡ self.old.around }
+    {
         self.expressions.tell_name(rule, count, message)
     }
 }

@@ -1,6 +1,7 @@
 // Where control goes on from the statements that are open (WGSL, "Behaviors").
 ghost use Rattle.std.specs.Prelude.{◌≡◌, [], ◌∷◌, IfOk, option_map};
-ghost use Rattle.wgsl_module.specs.Flow.{begun_on, below, block_on, body_on, ended, first, flow_view, frame_view, if_on, is_block, is_returned, with_body, with_condition, with_continuing, with_else, without_returned};
+ghost use Rattle.wgsl_module.specs.Flow.{are_none, around_view, begun_on, below, block_on, body_on, clauses_on, ended, first, flow_view, frame_view, if_on, is_block, is_returned, with_body, with_condition, with_continuing, with_else, without_returned};
+ghost use Rattle.wgsl_module.specs.Statements.{switch_opened, with_clause};
 ghost use Rattle.wgsl_module.specs.Views.{behaviour_view};
 
 use crate::behaviour::Behaviour;
@@ -24,7 +25,9 @@ impl Flow {
         }
     }
 
-    pub fn is_empty(&self) -> bool {
+    pub fn is_empty(&self) -> bool
+        ensures { result ≡ are_none (flow_view self.now) }
+    {
         self.frames.is_empty()
     }
 
@@ -98,6 +101,33 @@ impl Flow {
         self.push(Frame::Choice(first.or(second)))
     }
 
+    /// The value behind `switch` is read: it has no clause yet.
+    pub fn open_switch(&mut self) -> Result<(), AllocError>
+        ensures { IfOk result (λ u. flow_view self.new ≡ switch_opened (flow_view self.old)) }
+    {
+        self.push(Frame::Choice(Behaviour::NOWHERE))
+    }
+
+    /// Takes the clauses of a `switch`.
+    pub fn take_clauses(&mut self) -> Behaviour
+        ensures behaviour { behaviour_view result ≡ clauses_on (flow_view self.old) }
+        ensures rest { flow_view self.new ≡ below (flow_view self.old) }
+    {
+        match self.frames.pop() {
+            Some(Frame::Choice(behaviour)) => behaviour,
+            _ => Behaviour::NOWHERE,
+        }
+    }
+
+    /// `case 1 { }`, `default { }`: what any of the clauses does.
+    pub fn close_clause(&mut self) -> Result<(), AllocError>
+        ensures { IfOk result (λ u. flow_view self.new ≡ with_clause (flow_view self.old)) }
+    {
+        let body = self.take_body();
+        let clauses = self.take_clauses();
+        self.push(Frame::Choice(clauses.or(body)))
+    }
+
     /// What an `if` does; without `else` it may go on.
     pub fn take_if(&mut self) -> Behaviour
         ensures behaviour { behaviour_view result ≡ if_on (flow_view self.old) }
@@ -141,7 +171,7 @@ impl Flow {
 
     /// Takes the statement on top: its word, what is around it, and whether it has a condition.
     pub fn leave(&mut self) -> Option<(Kind, Around, bool)>
-        ensures begun { option_map (λ b. (b.0, b.2)) result ≡ begun_on (flow_view self.old) }
+        ensures begun { option_map (λ b. (b.0, around_view b.1, b.2)) result ≡ begun_on (flow_view self.old) }
         ensures rest { flow_view self.new ≡ below (flow_view self.old) }
     {
         match self.frames.pop() {

@@ -20,7 +20,6 @@ pub struct Switch {
     pub selector: Part,
     pub values: Vec<Part>,
     pub defaults: usize,
-    pub clauses: Behaviour,
 }
 
 /// A block that is open.
@@ -39,7 +38,7 @@ pub enum Frame {
     Block(Block),
     /// A block that is closed.
     Body(Behaviour),
-    /// An `if` with its `else`.
+    /// An `if` with its `else`, or the clauses of a `switch` so far.
     Choice(Behaviour),
     /// The value behind `return` is read.
     Returned,

@@ -21,4 +21,5 @@ mod local;
 pub mod module;
 mod statement;
 mod step;
+mod switch;
 mod walk;

@@ -1,4 +1,7 @@
 // Declarations in functions (WGSL, "Value Declarations", "Variable Declarations").
+ghost use Rattle.std.specs.Prelude.{◌≡◌, IfOk};
+ghost use Rattle.wgsl_module.specs.Behaviours.{goes_on};
+ghost use Rattle.wgsl_module.specs.Flow.{ended, flow_view};
 
 use crate::behaviour::Behaviour;
 use crate::checker::Checker;
@@ -10,7 +13,18 @@ use wgsl_syntax::address::AddressSpace;
 
 impl<'t> Checker<'t> {
     /// Gives a value its name in the innermost block.
-    fn bind(&mut self, named: usize, typed: Option<Typed>) -> Result<(), AllocError> {
+    fn bind(&mut self, named: usize, typed: Option<Typed>) -> Result<(), AllocError>
+        ensures flow { IfOk result (λ u. flow_view self.new.flow ≡ ended goes_on (flow_view self.old.flow)) }
+        ensures around { self.new.around ≡ self.old.around }
+    {
+        self.declare_local(named, typed)?;
+        self.end(Behaviour::NEXT)
+    }
+
+    fn declare_local(&mut self, named: usize, typed: Option<Typed>) -> Result<(), AllocError>
+        ensures flow { self.new.flow ≡ self.old.flow }
+        ensures around { self.new.around ≡ self.old.around }
+    {
         let name = self.word(named);
         if self.expressions.locals.is_here(name) {
             self.tell_name(Rule::Duplicate, named, "is declared twice in this block")?;
@@ -20,11 +34,14 @@ impl<'t> Checker<'t> {
         } else {
             self.expressions.locals.declare(name, named, typed)?;
         }
-        self.end(Behaviour::NEXT)
+        Ok(())
     }
 
     /// `let x = y;`, `const x: T = y;`
-    pub fn declare_value(&mut self, declaration: Declaration) -> Result<(), AllocError> {
+    pub fn declare_value(&mut self, declaration: Declaration) -> Result<(), AllocError>
+        ensures flow { IfOk result (λ u. flow_view self.new.flow ≡ ended goes_on (flow_view self.old.flow)) }
+        ensures around { self.new.around ≡ self.old.around }
+    {
         let part = self.expressions.take_part()?;
         let declared = self.expressions.take_declared();
         let named = self.expressions.take_name();
@@ -34,7 +51,10 @@ impl<'t> Checker<'t> {
     }
 
     /// `var x: T = y;`
-    pub fn declare_variable(&mut self) -> Result<(), AllocError> {
+    pub fn declare_variable(&mut self) -> Result<(), AllocError>
+        ensures flow { IfOk result (λ u. flow_view self.new.flow ≡ ended goes_on (flow_view self.old.flow)) }
+        ensures around { self.new.around ≡ self.old.around }
+    {
         let part = self.expressions.take_initializer()?;
         let declared = self.expressions.take_declared();
         let named = self.expressions.take_name();
@@ -57,7 +77,10 @@ impl<'t> Checker<'t> {
     }
 
     /// A variable of a function lies in `function`.
-    fn is_in_function(&mut self, named: usize) -> Result<bool, AllocError> {
+    fn is_in_function(&mut self, named: usize) -> Result<bool, AllocError>
+        ensures flow { self.new.flow ≡ self.old.flow }
+        ensures around { self.new.around ≡ self.old.around }
+    {
         match self.expressions.take_space() {
             None | Some(Some((AddressSpace::Function, None))) => Ok(true),
             Some(None) => Ok(false),

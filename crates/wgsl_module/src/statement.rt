@@ -1,4 +1,10 @@
 // Statements without blocks (WGSL, "Statements").
+ghost use Rattle.std.specs.Prelude.{◌≡◌, ◌∷◌, ◌-◌, ◌&&◌, IfOk, is_some, not};
+ghost use Rattle.wgsl_module.specs.Behaviours.{goes_on};
+ghost use Rattle.wgsl_module.specs.Flow.{around_view, ended, flow_view, is_returned, returned};
+ghost use Rattle.wgsl_module.specs.Statements.{IsReturnTold, jumped, may_jump, return_ended};
+ghost use Rattle.wgsl_module.specs.Views.{behaviour_view};
+ghost use Rattle.wgsl_names.specs.Faults.{IsToldIf, last_of};
 
 use crate::behaviour::Behaviour;
 use crate::checker::Checker;
@@ -22,13 +28,19 @@ use wgsl_typing::expression::shown;
 
 impl<'t> Checker<'t> {
     /// The expression of a statement is used, and control goes on behind it.
-    fn end_with(&mut self, part: Part) -> Result<(), AllocError> {
+    fn end_with(&mut self, part: Part) -> Result<(), AllocError>
+        ensures flow { IfOk result (λ u. flow_view self.new.flow ≡ ended goes_on (flow_view self.old.flow)) }
+        ensures around { self.new.around ≡ self.old.around }
+    {
         self.expressions.note(part)?;
         self.end(Behaviour::NEXT)
     }
 
     /// `const_assert x;`
-    pub fn assert(&mut self) -> Result<(), AllocError> {
+    pub fn assert(&mut self) -> Result<(), AllocError>
+        ensures flow { IfOk result (λ u. flow_view self.new.flow ≡ ended goes_on (flow_view self.old.flow)) }
+        ensures around { self.new.around ≡ self.old.around }
+    {
         let part = self.expressions.take_part()?;
         if self.expressions.is_condition(&part)? {
             if let Some(typed) = part.typed() {
@@ -38,7 +50,10 @@ impl<'t> Checker<'t> {
         self.end_with(part)
     }
 
-    fn check_assertion(&mut self, place: Place, typed: &Typed) -> Result<(), AllocError> {
+    fn check_assertion(&mut self, place: Place, typed: &Typed) -> Result<(), AllocError>
+        ensures flow { self.new.flow ≡ self.old.flow }
+        ensures around { self.new.around ≡ self.old.around }
+    {
         match (typed.stage, typed.value) {
             (Stage::Const, Some(Value::One(Constant::Bool(false)))) => {
                 self.tell(Rule::Value, place, "this assertion doesn't hold")
@@ -49,7 +64,10 @@ impl<'t> Checker<'t> {
     }
 
     /// `x = y;`, `x += y;`
-    pub fn assign(&mut self, is_compound: bool) -> Result<(), AllocError> {
+    pub fn assign(&mut self, is_compound: bool) -> Result<(), AllocError>
+        ensures flow { IfOk result (λ u. flow_view self.new.flow ≡ ended goes_on (flow_view self.old.flow)) }
+        ensures around { IfOk result (λ u. self.new.around ≡ self.old.around) }
+    {
         let right = self.expressions.take_part()?;
         let sign = match is_compound {
             true => Some(self.expressions.take_sign()),
@@ -68,7 +86,10 @@ impl<'t> Checker<'t> {
         sign: Option<usize>,
         left: &Part,
         right: &Part,
-    ) -> Result<(), AllocError> {
+    ) -> Result<(), AllocError>
+        ensures flow { self.new.flow ≡ self.old.flow }
+        ensures around { self.new.around ≡ self.old.around }
+    {
         let (Some(x), Some(y)) = (left.typed(), right.typed()) else {
             return Ok(());
         };
@@ -98,7 +119,10 @@ impl<'t> Checker<'t> {
     }
 
     /// Says why nothing can be written to what has this place.
-    fn refuse_writing(&mut self, place: Place, refusal: Refusal<'_>) -> Result<(), AllocError> {
+    fn refuse_writing(&mut self, place: Place, refusal: Refusal<'_>) -> Result<(), AllocError>
+        ensures flow { self.new.flow ≡ self.old.flow }
+        ensures around { self.new.around ≡ self.old.around }
+    {
         let name = place.from.saturating_add(1);
         match (&refusal, self.expressions.constant_named(name)) {
             (Refusal::NotReference(_), Some(message)) => self.tell_name(Rule::Type, name, message),
@@ -110,7 +134,10 @@ impl<'t> Checker<'t> {
     }
 
     /// `x++;`, `x--;`, or `_ = x;`
-    pub fn step_or_discard(&mut self, is_step: bool) -> Result<(), AllocError> {
+    pub fn step_or_discard(&mut self, is_step: bool) -> Result<(), AllocError>
+        ensures flow { IfOk result (λ u. flow_view self.new.flow ≡ ended goes_on (flow_view self.old.flow)) }
+        ensures around { self.new.around ≡ self.old.around }
+    {
         let part = self.expressions.take_part()?;
         self.expressions.has_value(&part)?;
         if let Some(typed) = part.typed() {
@@ -126,7 +153,10 @@ impl<'t> Checker<'t> {
     }
 
     /// `f(x);`
-    pub fn call_statement(&mut self) -> Result<(), AllocError> {
+    pub fn call_statement(&mut self) -> Result<(), AllocError>
+        ensures flow { IfOk result (λ u. flow_view self.new.flow ≡ ended goes_on (flow_view self.old.flow)) }
+        ensures around { self.new.around ≡ self.old.around }
+    {
         let part = self.expressions.take_part()?;
         if matches!(part.outcome, Outcome::Typed(_)) && !part.may_be_dropped {
             self.tell(Rule::MustUse, part.place, "this value must be used")?;
@@ -135,14 +165,21 @@ impl<'t> Checker<'t> {
     }
 
     /// `discard;`
-    pub fn discard(&mut self, count: usize) -> Result<(), AllocError> {
+    pub fn discard(&mut self, count: usize) -> Result<(), AllocError>
+        ensures flow { IfOk result (λ u. flow_view self.new.flow ≡ ended goes_on (flow_view self.old.flow)) }
+        ensures around { self.new.around ≡ self.old.around }
+    {
         let place = Place::last_of(count.saturating_sub(1));
         self.expressions.only_in(Stages::Fragment, place)?;
         self.end(Behaviour::NEXT)
     }
 
     /// `break;`, `continue;`
-    pub fn jump(&mut self, count: usize, behaviour: Behaviour) -> Result<(), AllocError> {
+    pub fn jump(&mut self, count: usize, behaviour: Behaviour) -> Result<(), AllocError>
+        ensures flow { IfOk result (λ u. flow_view self.new.flow ≡ ended (jumped (behaviour_view behaviour) (may_jump (behaviour_view behaviour) (around_view self.old.around))) (flow_view self.old.flow)) }
+        ensures told { IfOk result (λ u. IsToldIf (not (may_jump (behaviour_view behaviour) (around_view self.old.around))) Rule.Behaviour (last_of (count - 1)) self.old.expressions.faults.items self.new.expressions.faults.items) }
+        ensures around { self.new.around ≡ self.old.around }
+    {
         let is_allowed = match behaviour.breaks {
             true => self.around.may_break,
             false => self.around.may_continue,
@@ -156,7 +193,10 @@ impl<'t> Checker<'t> {
     }
 
     /// The value behind `return`.
-    pub fn put_returned(&mut self) -> Result<(), AllocError> {
+    pub fn put_returned(&mut self) -> Result<(), AllocError>
+        ensures flow { IfOk result (λ u. flow_view self.new.flow ≡ returned ∷ flow_view self.old.flow) }
+        ensures around { self.new.around ≡ self.old.around }
+    {
         let part = self.expressions.take_part()?;
         self.expressions.has_value(&part)?;
         if let Some(typed) = part.typed() {
@@ -166,7 +206,10 @@ impl<'t> Checker<'t> {
         self.flow.push(Frame::Returned)
     }
 
-    fn check_returned(&mut self, part: &Part, typed: &Typed) -> Result<(), AllocError> {
+    fn check_returned(&mut self, part: &Part, typed: &Typed) -> Result<(), AllocError>
+        ensures flow { self.new.flow ≡ self.old.flow }
+        ensures around { self.new.around ≡ self.old.around }
+    {
         let Some(ty) = self.result.take() else {
             if self.has_faulty_result {
                 return Ok(());
@@ -181,16 +224,42 @@ impl<'t> Checker<'t> {
         Ok(())
     }
 
-    pub fn return_value(&mut self, count: usize) -> Result<(), AllocError> {
+    pub fn return_value(&mut self, count: usize) -> Result<(), AllocError>
+        ensures flow { IfOk result (λ u. flow_view self.new.flow ≡ return_ended (flow_view self.old.flow)) }
+        ensures told { IfOk result (λ u. IsReturnTold self.old.around.in_continuing (not (is_returned (flow_view self.old.flow)) && is_some self.old.result)
+            (last_of (count - 1)) self.old.expressions.faults.items self.new.expressions.faults.items) }
+        ensures around { self.new.around ≡ self.old.around }
+    {
         let has_value = self.flow.take_returned()?;
         let word = count.saturating_sub(1);
+        self.check_around_return(word)?;
+        self.check_has_value(has_value, word)?;
+        self.end(Behaviour::RETURN)
+    }
+
+    /// A `continuing` can't return.
+    fn check_around_return(&mut self, word: usize) -> Result<(), AllocError>
+        ensures told { IfOk result (λ u. IsToldIf self.old.around.in_continuing Rule.Behaviour (last_of word) self.old.expressions.faults.items self.new.expressions.faults.items) }
+        ensures flow { self.new.flow ≡ self.old.flow }
+        ensures around { self.new.around ≡ self.old.around }
+        ensures result { self.new.result ≡ self.old.result }
+    {
         if self.around.in_continuing {
             self.tell_last(Rule::Behaviour, word, "a `continuing` can't return")?;
         }
+        Ok(())
+    }
+
+    /// A function with a result returns a value.
+    fn check_has_value(&mut self, has_value: bool, word: usize) -> Result<(), AllocError>
+        ensures told { IfOk result (λ u. IsToldIf (not has_value && is_some self.old.result) Rule.Type (last_of word) self.old.expressions.faults.items self.new.expressions.faults.items) }
+        ensures flow { self.new.flow ≡ self.old.flow }
+        ensures around { self.new.around ≡ self.old.around }
+    {
         if !has_value && self.result.is_some() {
             self.tell_last(Rule::Type, word, "this function returns a value")?;
         }
-        self.end(Behaviour::RETURN)
+        Ok(())
     }
 }
 

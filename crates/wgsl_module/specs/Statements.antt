@@ -1,0 +1,116 @@
+-- What a statement that is read does to those that are open, and what of it is wrong by where control goes on (WGSL, "Control
+-- Flow", "Behaviors").
+use Rattle.std.specs.Prelude.{List, [], ◌∷◌, Bool, true, false, Option, Some, None, cond, option_map}
+use Rattle.wgsl_module.specs.Behaviours.{Behaviour, either, goes_on, looped, never_ends, nowhere, return_alone, switched}
+use Rattle.wgsl_module.specs.Flow.{Around, Frame, a_block, a_choice, begun, begun_on, below, block_on, body_on, clauses_on, ended, if_on, with_body, with_continuing, without_returned}
+use Rattle.wgsl_names.specs.Faults.{IsToldIf}
+use Rattle.wgsl_names.specs.declared.fault.Fault.{Fault}
+use Rattle.wgsl_names.specs.declared.fault.Place.{Place}
+use Rattle.wgsl_names.specs.declared.fault.Rule.TheVariants as rules
+use Rattle.wgsl_reader.specs.declared.kind.Kind.{Kind}
+use Rattle.wgsl_reader.specs.declared.kind.Kind.TheVariants as kinds
+
+-- Begin
+
+-- what is around the statements of a loop, of a `switch` and of a `continuing`
+abbrev pub inside : Kind → Around → Around
+inside kinds.For a = record { may_break = true; may_continue = true; in_continuing = a.in_continuing }
+inside kinds.While a = record { may_break = true; may_continue = true; in_continuing = a.in_continuing }
+inside kinds.Loop a = record { may_break = true; may_continue = true; in_continuing = a.in_continuing }
+inside kinds.Switch a = record { may_break = true; may_continue = a.may_continue; in_continuing = a.in_continuing }
+inside kinds.Continuing a = record { may_break = false; may_continue = false; in_continuing = true }
+inside word a = a
+
+-- the words of statements with blocks
+abbrev pub has_blocks : Kind → Bool
+has_blocks kinds.For = true
+has_blocks kinds.While = true
+has_blocks kinds.Loop = true
+has_blocks kinds.Switch = true
+has_blocks kinds.Continuing = true
+has_blocks kinds.If = true
+has_blocks word = false
+
+abbrev pub began : Kind → Around → List Frame → List Frame
+began word around fs = cond (has_blocks word) (begun word around false ∷ fs) fs
+
+-- what is around behind the statement on top: what was around it
+abbrev pub outside_of : Option (Kind × Around × Bool) → Around → Around
+outside_of None around = around
+outside_of (Some b) around = b.1
+
+-- Blocks
+
+-- A block that is closed; that of a function's body leaves nothing open.
+abbrev pub body_closed : Behaviour → List Frame → List Frame
+body_closed b [] = []
+body_closed b (f ∷ fs) = with_body b (f ∷ fs)
+
+abbrev pub closed_as : Option Behaviour → List Frame → List Frame
+closed_as None fs = fs
+closed_as (Some b) fs = body_closed b fs
+
+abbrev pub block_closed : List Frame → List Frame
+block_closed fs = closed_as (block_on fs) (below fs)
+
+-- control may come to the end of a function's body
+abbrev pub may_fall_off : List Frame → Bool
+may_fall_off (a_block b ∷ []) = b.next
+may_fall_off fs = false
+
+-- Ends
+
+abbrev pub if_ended : List Frame → List Frame
+if_ended fs = ended (if_on fs) (below (below fs))
+
+abbrev pub continuing_ended : List Frame → List Frame
+continuing_ended fs = with_continuing (body_on fs) (below (below fs))
+
+-- what a loop does whose body is on top
+abbrev pub loop_on : List Frame → Option Behaviour
+loop_on fs = option_map (λ b. looped b.2 (body_on fs)) (begun_on (below fs))
+
+abbrev pub ended_as : Option Behaviour → List Frame → List Frame
+ended_as None fs = fs
+ended_as (Some b) fs = ended b fs
+
+abbrev pub loop_ended : List Frame → List Frame
+loop_ended fs = ended_as (loop_on fs) (below (below fs))
+
+-- `loop { }` is wrong: no way leads on
+abbrev pub goes_nowhere : Option Behaviour → Bool
+goes_nowhere None = false
+goes_nowhere (Some b) = never_ends b
+
+-- Jumps
+
+-- `break;` stands in a loop or a `switch`, `continue;` in a loop, and not across a `continuing`
+abbrev pub may_jump : Behaviour → Around → Bool
+may_jump b around = cond b.breaks around.may_break around.may_continue
+
+-- one that is wrong does nothing
+abbrev pub jumped : Behaviour → Bool → Behaviour
+jumped b true = b
+jumped b false = goes_on
+
+-- `return;`, `return x;`
+abbrev pub return_ended : List Frame → List Frame
+return_ended fs = ended return_alone (without_returned fs)
+
+-- A `continuing` can't return, and a function with a result returns a value.
+abbrev pub IsReturnTold : Bool → Bool → Place → List Fault → List Fault → Type 0
+IsReturnTold in_continuing lacks_value place old new =
+    (between : List Fault) × IsToldIf in_continuing rules.Behaviour place old between × IsToldIf lacks_value rules.Type place between new
+
+-- Switches
+
+-- the value behind `switch` is read: it has no clause yet
+abbrev pub switch_opened : List Frame → List Frame
+switch_opened fs = a_choice nowhere ∷ fs
+
+-- `case 1 { }`, `default { }`: what any of the clauses does
+abbrev pub with_clause : List Frame → List Frame
+with_clause fs = a_choice (either (clauses_on (below fs)) (body_on fs)) ∷ below (below fs)
+
+abbrev pub switch_ended : List Frame → List Frame
+switch_ended fs = ended (switched (clauses_on fs)) (below (below fs))
