@@ -150,7 +150,10 @@ fn explain(found: &mut Found, text: &str) {
     for fault in &mut found.faults {
         let at = |misread: &Misread| misread.at.cmp(&fault.place.from);
         let misread = found.misread.binary_search_by(at).ok().map(|index| found.misread[index]);
-        if let Some(misread) = misread.filter(|misread| is_explained(*misread, &mut left)) {
+        let is_strange = |misread: &Misread| text.strange(text.token(misread.at)).is_some();
+        let misread =
+            misread.filter(|misread| !is_strange(misread) && is_explained(*misread, &mut left));
+        if let Some(misread) = misread {
             fault.message.clear();
             always(write_misread(&mut fault.message, Global, text, misread, None));
         }

@@ -194,9 +194,11 @@ let asks = 0, isAboutShader = false;
 async function ask() {
   const number = ++asks, asked = request.value;
   isAboutShader = namesShader(asked, source.value);
+  at("answers").ariaBusy = String(isAboutShader);
   const answers = isAboutShader ? await answersIn(source.value, asked) : answersTo(asked);
   if (number !== asks) return;
   at("answers").replaceChildren(...answers);
+  at("answers").ariaBusy = "false";
 }
 
 // The state of the page is its address.

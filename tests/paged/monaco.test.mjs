@@ -19,12 +19,14 @@ test("faults are markers, with notes, again after a change, and only of WGSL", (
   change();
   assert.deepEqual(markers[1], markers[0]);
   const [[{ message, relatedInformation: [note], ...more }, ...others], , ...none] = markers, place = { startLineNumber: 3, startColumn: 26, endLineNumber: 3, endColumn: 29 };
-  assert.deepEqual([message, others, none, more], ["no overload takes these operands", [], [], { severity: 8, code: "overload", ...place }]);
+  assert.deepEqual([message, others, none, more], ["no overload of `mix` takes (vec3<f32>, vec3<f32>, bool)", [], [], { severity: 8, code: "overload", ...place }]);
   assert.deepEqual(note, { resource: undefined, message: "mix(vecN<T>, vecN<T>, vecN<T>) -> vecN<T>, T: float: argument 3 is bool", ...place });
 });
 
 test("the innermost expression has its type in a hover, a call its signatures and the parameter that comes next", () => {
-  assert.equal(providers.provideHover(modelOf(TEXT), TEXT.indexOf("yz")).contents[0].value, "`vec2<f32>`, runtime");
+  for (const [shift, type] of [[0, "vec3<f32>"], [2, "vec2<f32>"], [4, "array<vec2<f32>, 2>"]]) {
+    assert.equal(providers.provideHover(modelOf(TEXT), TEXT.indexOf("v.yz") + shift).contents[0].value, `\`${type}\`, runtime`);
+  }
   assert.equal(providers.provideHover(modelOf(TEXT), 0), undefined);
   for (const [text, label, parameters, active] of [
     ["let a = mix(vec3f(1, 2, 3), b[1, 2], ", "mix(T, T, T) -> T, T: float", ["T", "T", "T"], 2],

@@ -83,9 +83,11 @@ impl<'t> Checker<'t> {
     /// An attribute that WGSL doesn't have, as `@stage(vertex)` of old.
     fn refuse_unknown(&mut self, named: usize, arguments: &Arguments) -> Result<(), AllocError> {
         self.refuse_attribute(named, "is no attribute")?;
+        let is_stage = self.word(named) == "stage";
         match arguments.names.as_slice() {
-            [stage] if self.word(named) == "stage" => {
-                self.expressions.suggest(Some(self.word(*stage)))
+            [stage] if is_stage => {
+                let meant = self.word(*stage);
+                self.expressions.suggest(Some(meant))
             }
             _ => self.suggest(named, Cause::UnknownAttribute),
         }

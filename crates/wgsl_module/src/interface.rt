@@ -180,22 +180,22 @@ impl<'t> Checker<'t> {
         if has_location && !is_carried(ty) {
             return Some(Trouble::Type("this type can't have a @location"));
         }
-        match (
-            self.attribute(of, Name::Interpolate),
-            self.attribute(of, Name::BlendSrc),
-            self.attribute(of, Name::Invariant),
-        ) {
-            (Some(interpolate), _, _) if !has_location => {
-                Some(Trouble::Name(interpolate.named, "stands with @location"))
+        if let Some(interpolate) = self.attribute(of, Name::Interpolate) {
+            if !has_location {
+                return Some(Trouble::Name(interpolate.named, "stands with @location"));
             }
-            (_, Some(source), _) if self.missing("blend_src").is_some() => {
-                Some(Trouble::Disabled(source.named, "dual_source_blending"))
-            }
-            (_, _, Some(invariant)) if !self.says(of, Name::Builtin, "position") => {
-                Some(Trouble::Name(invariant.named, "stands with @builtin(position)"))
-            }
-            _ => None,
         }
+        if let Some(source) = self.attribute(of, Name::BlendSrc) {
+            if self.missing("blend_src").is_some() {
+                return Some(Trouble::Disabled(source.named, "dual_source_blending"));
+            }
+        }
+        if let Some(invariant) = self.attribute(of, Name::Invariant) {
+            if !self.says(of, Name::Builtin, "position") {
+                return Some(Trouble::Name(invariant.named, "stands with @builtin(position)"));
+            }
+        }
+        None
     }
 
     /// The extension that an attribute or a built-in value needs, if it isn't enabled.

@@ -55,6 +55,15 @@ impl<'t> Checker<'t> {
         ensures flow { IfOk result (λ u. flow_view self.new.flow ≡ ended goes_on (flow_view self.old.flow)) }
         ensures around { self.new.around ≡ self.old.around }
     {
+        let (named, typed) = self.read_variable()?;
+        self.bind(named, typed)
+    }
+
+    /// The name of a variable, and what it is if it has no fault.
+    fn read_variable(&mut self) -> Result<(usize, Option<Typed>), AllocError>
+        ensures flow { self.new.flow ≡ self.old.flow }
+        ensures around { self.new.around ≡ self.old.around }
+    {
         let part = self.expressions.take_initializer()?;
         let declared = self.expressions.take_declared();
         let named = self.expressions.take_name();
@@ -73,7 +82,7 @@ impl<'t> Checker<'t> {
         if let Some(part) = part {
             self.expressions.note(part)?;
         }
-        self.bind(named, if is_held { typed } else { None })
+        Ok((named, if is_held { typed } else { None }))
     }
 
     /// A variable of a function lies in `function`.

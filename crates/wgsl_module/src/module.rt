@@ -86,16 +86,24 @@ fn read_all<'t>(
 fn distinct(alloc: Global, faults: Vec<Fault>) -> Result<Vec<Fault>, AllocError> {
     let mut kept: Vec<Fault> = Vec::with_capacity(alloc, faults.len())?;
     for fault in faults {
-        let place = fault.place;
-        let mut there = kept
-            .iter()
-            .rev()
-            .take_while(|other| other.place.from == place.from);
-        if !there.any(|other| is_again(other, &fault)) {
+        if !is_told(&kept, &fault) {
             kept.push(fault)?;
         }
     }
     Ok(kept)
+}
+
+/// Whether one of the last faults, which begin where this one does, says as much.
+fn is_told(kept: &[Fault], fault: &Fault) -> bool {
+    for told in kept.iter().rev() {
+        if told.place.from != fault.place.from {
+            return false;
+        }
+        if is_again(told, fault) {
+            return true;
+        }
+    }
+    false
 }
 
 /// Whether a fault says no more than another one: what can't be used in a stage is told of one entry point.

@@ -193,7 +193,7 @@ impl<'t> Checker<'t> {
 }
 
 /// The index of the first value that doesn't agree with those before it, if one doesn't.
-fn first_wrong(first: &Operand<'_>, rest: &[Operand<'_>]) -> usize {
+fn first_wrong<'o>(first: &Operand<'o>, rest: &[Operand<'o>]) -> usize {
     let (mut low, mut high) = (0usize, rest.len());
     for _ in 0..64 {
         let middle = low.saturating_add(high.saturating_sub(low) / 2);

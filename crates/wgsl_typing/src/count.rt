@@ -110,7 +110,7 @@ impl<'t> Expressions<'t> {
     ) -> Result<usize, AllocError> {
         let text = self.text_of(place);
         for (index, other) in self.override_counts.iter().enumerate() {
-            if name.is_some() && other.as_str() == text {
+            if name.is_some() && is_same(text, other.as_str()) {
                 return Ok(OVERRIDE_COUNT.saturating_add(index));
             }
         }
@@ -122,6 +122,10 @@ impl<'t> Expressions<'t> {
                 .saturating_sub(1),
         )
     }
+}
+
+fn is_same(a: &str, b: &str) -> bool {
+    a == b
 }
 
 /// A text with types, in which counts that overrides give are as they are written.

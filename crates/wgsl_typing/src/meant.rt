@@ -53,13 +53,13 @@ impl<'t> Expressions<'t> {
 
     /// Adds to the last fault what its word may have meant, of the first ones of a text.
     pub fn suggest(&mut self, name: Option<&str>) -> Result<(), AllocError> {
-        let (Some(name), Some(left)) = (name, self.guesses.checked_sub(1)) else {
+        let Some(left) = self.guesses.checked_sub(1) else {
             return Ok(());
         };
         self.guesses = left;
-        match self.faults.last_mut() {
-            Some(fault) => write!(fault.message, "; did you mean `{name}`?"),
-            None => Ok(()),
+        match (name, self.faults.last_mut()) {
+            (Some(name), Some(fault)) => write!(fault.message, "; did you mean `{name}`?"),
+            _ => Ok(()),
         }
     }
 
@@ -109,6 +109,9 @@ impl<'t> Expressions<'t> {
 
     /// The member of a declared struct that a word may have meant.
     pub fn meant_member(&self, ty: &Type, word: &'t str) -> Option<&'t str> {
+        if self.guesses == 0 {
+            return None;
+        }
         let declared = self.structs.declared(ty)?;
         let mut nearest = Nearest::to(word);
         for name in declared.members.keys() {

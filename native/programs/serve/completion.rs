@@ -9,6 +9,7 @@ use wgsl_types_proved::module::{Checked, Meaning, Name, Stage};
 use wgsl_types_proved::predeclared::{builtin_values, enumerants, functions, types};
 use wgsl_types_proved::reader::{tokens, Kind::*};
 use wgsl_types_proved::standard::{overloads, type_of_member, Operand, Overload};
+use wgsl_types_proved::syntax::{AccessMode, AddressSpace, TexelFormat};
 use wgsl_types_proved::Type;
 
 /// The kinds of items that there are (LSP, "CompletionItemKind").
@@ -84,13 +85,13 @@ pub fn completion(document: &Document, byte: usize) -> Json {
 fn items(cursor: &Cursor, module: &Module, text: &str, byte: usize) -> Json {
     let types = types_in(module, byte);
     let values = values_in(module.checked(), byte);
-    let enumerant = |name| item(name, ItemKind::EnumMember, "");
     let enumerated = enumerants().map(enumerant);
     match (cursor.back(1), cursor.around) {
         (Period, _) => members(module, byte),
         (At, around) => attributes(around).collect(),
         (OpenRound, Around::Attribute(_)) if cursor.text_back(2, text) == "builtin" => {
-            builtin_values().map(enumerant).collect()
+            let value = |name| item(name, ItemKind::EnumMember, "built-in value");
+            builtin_values().map(value).collect()
         }
         (Colon, Around::Clauses) => values.chain(keywords(&STATEMENTS)).collect(),
         (Arrow | Colon, _) => types.collect(),
@@ -114,6 +115,17 @@ fn items(cursor: &Cursor, module: &Module, text: &str, byte: usize) -> Json {
         }
         _ => values.collect(),
     }
+}
+
+/// An enumerant, with what it is one of.
+fn enumerant(name: &str) -> Json {
+    let detail = match name {
+        _ if name.parse::<TexelFormat>().is_ok() => "texel format",
+        _ if name.parse::<AccessMode>().is_ok() => "access mode",
+        _ if name == "immediate" || name.parse::<AddressSpace>().is_ok() => "address space",
+        _ => "",
+    };
+    item(name, ItemKind::EnumMember, detail)
 }
 
 /// Whether a `<` behind a name opens a template list that isn't closed.
