@@ -1,9 +1,9 @@
 -- The tokens of a request, one by one.
-use Rattle.std.proofs.Common.{◌≡◌, ℕ, ◌+◌, ◌<◌, ◌++◌, List, [], ◌∷◌, drop, length, slice_index_or, slice_set, take, zero, suc, refl, sym, ap, subst, ◌∙◌, arith}
+use Rattle.std.proofs.Common.{◌≡◌, ℕ, ◌+◌, ◌<◌, ◌++◌, List, [], ◌∷◌, drop, length, slice_index_or, slice_set, take, zero, suc, refl, sym, ap, ◌∙◌, arith}
 use Rattle.wgsl_reader.specs.declared.kind.Kind.{Kind}
 use Rattle.wgsl_reader.specs.declared.token.Token.{Token}
 use Rattle.wgsl_spelling.specs.Words.{word}
-use Rattle.wgsl_expressions.specs.RequestTokens.{asked_behind, asked_kind, asked_token, next_kind}
+use Rattle.wgsl_expressions.specs.RequestTokens.{asked_behind, asked_kind, next_kind}
 
 module _ (text : List ℕ) (before : Kind) (d : Token) where
   -- the kind of the token at an index

@@ -1,9 +1,8 @@
 -- Declared names, from the last on.
-use Rattle.std.proofs.Common.{◌≡◌, ℕ, ◌+◌, ◌-◌, ◌<◌, ◌++◌, List, [], ◌∷◌, cond, get_or, length, map, reverse, string_bytes, take, suc, sym, ap, ◌∙◌, arith}
-use Rattle.std.specs.Str.{bytes_eq}
+use Rattle.std.proofs.Common.{◌≡◌, ℕ, ◌<◌, List, [], ◌∷◌, get_or, length, map, reverse, take, suc, ap, ◌∙◌}
 use Rattle.std.proofs.Math.Seq.{take-suc}
 use Rattle.std.proofs.lemmas.List.{reverse-append}
-use Rattle.wgsl_expressions.specs.Scopes.{Scope, find}
+use Rattle.wgsl_expressions.specs.Scopes.{Scope}
 use Rattle.wgsl_expressions.specs.Views.{declared_view}
 use Rattle.wgsl_expressions.specs.declared.scope.Declared.{Declared as CodeDeclared}
 

@@ -1,5 +1,5 @@
 -- Every text is an expression or none, and every line a request or none, if every request has an answer.
-use Rattle.std.proofs.Common.{◌≡◌, ◌+◌, ◌-◌, ◌&&◌, ◌||◌, ℕ, zero, suc, Bool, List, [], ◌∷◌, Option, Some, None, Ok, Err, true, false, length, map, option_map, slice_get, slice_range, refl}
+use Rattle.std.proofs.Common.{◌+◌, ◌-◌, ◌&&◌, ◌||◌, ℕ, zero, suc, Bool, List, [], ◌∷◌, Option, Some, None, Ok, Err, true, false, length, map, option_map, slice_get, slice_range, refl}
 use Rattle.wgsl_rules.specs.types.Types.{WgslType}
 use Rattle.wgsl_forms.specs.Concrete.{has_abstract_type}
 use Rattle.wgsl_forms.specs.Expressions.{Expression}
@@ -18,7 +18,7 @@ use Rattle.wgsl_reader.specs.declared.rule.Rule.TheVariants.{Expression as an_ex
 use Rattle.wgsl_reader.specs.declared.token.Token.{Token}
 use Rattle.wgsl_spelling.specs.Names.{access_named, space_named}
 use Rattle.wgsl_syntax.specs.Names.{named}
-use Rattle.wgsl_expressions.specs.Headings.{Changed, NumberedIfAny, attributes, member_in as member_within, struct_on, with_attribute}
+use Rattle.wgsl_expressions.specs.Headings.{Changed, NumberedIfAny, attributes, member_in as member_within, struct_on}
 use Rattle.wgsl_expressions.specs.Names.{head_noted}
 use Rattle.wgsl_spelling.specs.Operators.{binary_of, unary_of}
 use Rattle.wgsl_expressions.specs.Outcomes.{Head, IsCalled, IsElement, IsMember, IsOutcome, Outcome, Parts, asked, is_constant, member_in, operand, outcome_by, part_in, result_of, result_of_call, type_of_answer}

@@ -1,6 +1,6 @@
 -- What is declared in front of a request: structs and functions.
-use Rattle.std.specs.Prelude.{◌≡◌, ℕ, ◌+◌, ◌-◌, List, [], ◌∷◌, ◌++◌, Option, Some, None, codes, cond, length, map, nat_lt, option_map, slice_range}
-use Rattle.wgsl_core.specs.View.{Member, members_of}
+use Rattle.std.specs.Prelude.{◌≡◌, ℕ, ◌+◌, ◌-◌, List, [], ◌∷◌, ◌++◌, Option, Some, None, codes, cond, length, map, nat_lt, slice_range}
+use Rattle.wgsl_core.specs.View.{members_of}
 use Rattle.wgsl_reader.specs.declared.read.Event.{Event}
 use Rattle.wgsl_rules.specs.types.Types.{WgslType, struct}
 use Rattle.wgsl_syntax.specs.Names.{named}

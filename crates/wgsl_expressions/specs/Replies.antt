@@ -1,5 +1,5 @@
 -- What is replied to a line in WGSL.
-use Rattle.std.specs.Prelude.{IsUtf8, ◌≡◌, ◌<◌, ◌+◌, ◌++◌, ℕ, List, [], Option, Some, None, Ok, Err, codes, decimal, map}
+use Rattle.std.specs.Prelude.{IsUtf8, ◌≡◌, ◌+◌, ◌++◌, ℕ, List, [], Option, Some, None, Ok, Err, codes, decimal, map}
 use Rattle.wgsl_rules.specs.types.Spelling.{wgsl_spelling}
 use Rattle.wgsl_forms.specs.Expressions.{Expression, shown_type}
 use Rattle.wgsl_requests.specs.Answers.{Answers, WgslAnswer}

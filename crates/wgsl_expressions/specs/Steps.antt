@@ -1,10 +1,9 @@
 -- What is done with what was read, by what is noted.
-use Rattle.std.specs.Prelude.{◌≡◌, ℕ, ◌+◌, ◌-◌, List, [], ◌∷◌, Some, None, Ok, Bool, false, true, ◌||◌, length, slice_get}
+use Rattle.std.specs.Prelude.{◌≡◌, ℕ, ◌-◌, List, [], ◌∷◌, Some, None, Ok, Bool, false, true, ◌||◌, length, slice_get}
 use Rattle.wgsl_rules.specs.types.Types.{WgslType, scalar}
 use Rattle.wgsl_forms.specs.Concrete.{has_abstract_type}
 use Rattle.wgsl_forms.specs.Expressions.{Expression}
 use Rattle.wgsl_forms.specs.declared.form.Referent.TheVariants.{Whole}
-use Rattle.wgsl_reader.specs.declared.grammar.Symbol.TheVariants as s
 use Rattle.wgsl_reader.specs.declared.mark.Mark.{Mark}
 use Rattle.wgsl_reader.specs.declared.mark.Mark.TheVariants as m
 use Rattle.wgsl_reader.specs.declared.read.Event.{Event}

@@ -15,11 +15,11 @@ use Rattle.wgsl_expressions.specs.Headings.{Attributed, Headed, Membered, Result
 use Rattle.wgsl_expressions.specs.Outcomes.{Outcome}
 use Rattle.wgsl_expressions.specs.RequestTokens.{asked_behind, operand_token}
 use Rattle.wgsl_expressions.specs.Scopes.{Declared, Scope}
-use Rattle.wgsl_expressions.specs.Source.{Source, byte_at, noted}
+use Rattle.wgsl_expressions.specs.Source.{Source, byte_at}
 use Rattle.wgsl_expressions.specs.Stack.{Heading, Item, Next, a_bracket, a_name, an_operand, an_operator}
 use Rattle.wgsl_expressions.specs.declared.statement.Question.{Question}
 use Rattle.wgsl_expressions.specs.declared.statement.Question.TheVariants as q
-use Rattle.wgsl_expressions.specs.Steps.{Annotated, Argument, Asks, Assigns, AssignsBy, Begun, Binary, Calls, Element, Given, InSpace, Increments, Literal, Member, Opens, Overloads, Unary, Value, WithAccess, WithStruct, given}
+use Rattle.wgsl_expressions.specs.Steps.{Annotated, Argument, Asks, Assigns, AssignsBy, Begun, Binary, Calls, Element, Given, InSpace, Increments, Literal, Member, Opens, Overloads, Unary, Value, WithAccess, WithStruct}
 
 -- what is done where something is noted
 pub data Step : Type 0 where
