@@ -5,12 +5,12 @@ mod signature;
 mod uses;
 
 use crate::proved::wgsl_core::ty::show::ShownType;
+use crate::proved::wgsl_faults::report::explained;
 use crate::proved::wgsl_module::module::{check as checked, Checked as Found};
 use crate::proved::wgsl_names::fault::Place;
 use crate::proved::wgsl_names::known::{Known, Outcome, Typed};
-use crate::proved::wgsl_reader::module::Misread;
 use crate::proved::wgsl_reader::token::Token;
-use crate::proved::wgsl_report::message::{is_explained, write_misread, EXPLAINED};
+use crate::proved::wgsl_report::message::{write_misread, EXPLAINED};
 use crate::proved::wgsl_source::text::Text;
 use crate::proved::wgsl_syntax::rules::RuleSet;
 use crate::proved::wgsl_typing::count::with_counts;
@@ -148,12 +148,7 @@ fn explain(found: &mut Found, text: &str) {
     let text = Text { text, tokens: &found.tokens };
     let mut left = EXPLAINED;
     for fault in &mut found.faults {
-        let at = |misread: &Misread| misread.at.cmp(&fault.place.from);
-        let misread = found.misread.binary_search_by(at).ok().map(|index| found.misread[index]);
-        let is_strange = |misread: &Misread| text.strange(text.token(misread.at)).is_some();
-        let misread =
-            misread.filter(|misread| !is_strange(misread) && is_explained(*misread, &mut left));
-        if let Some(misread) = misread {
+        if let Some(misread) = explained(text, &found.misread, fault.place, &mut left) {
             fault.message.clear();
             always(write_misread(&mut fault.message, Global, text, misread, None));
         }

@@ -5,13 +5,14 @@ use crate::write::{write_json, write_short, write_types};
 use std::alloc::{AllocError, Global};
 use std::str::from_utf8;
 use wgsl_module::module::{Checked, check, unreadable};
-use wgsl_names::fault::{Fault, Note as FaultNote, Rule};
+use wgsl_names::fault::{Fault, Note as FaultNote, Place, Rule};
 use wgsl_reader::module::Misread;
 use wgsl_report::lines::Lines;
 use wgsl_report::message::{EXPLAINED, Message, Note, Severity, is_explained, write_misread};
 use wgsl_report::shown::{Style, write_each};
 use wgsl_report::write::{Piece, write_all};
 use wgsl_source::fault::Cause;
+use wgsl_source::text::Text;
 
 /// How a report is written.
 #[derive(Clone, Copy, PartialEq, Eq)]
@@ -116,11 +117,9 @@ fn messages_of(
         let (at, end) = (source.start(fault.place), source.end(fault.place));
         let kind = code_of(alloc, fault.rule)?;
         let mut text = String::new(alloc);
-        match misread_at(misread, fault.place.from) {
-            Some(found) if !source.is_strange(found.at) && is_explained(found, &mut left) => {
-                write_misread(&mut text, alloc, source.whole(), found, None)?
-            }
-            _ => write_all(&mut text, &[Piece::Visible(fault.message.as_str())])?,
+        match explained(source.whole(), misread, fault.place, &mut left) {
+            Some(found) => write_misread(&mut text, alloc, source.whole(), found, None)?,
+            None => write_all(&mut text, &[Piece::Visible(fault.message.as_str())])?,
         }
         let notes = notes_of(source, &fault.notes)?;
         messages.push(Message {
@@ -145,6 +144,22 @@ fn notes_of(source: Source, notes: &[FaultNote]) -> Result<Vec<Note>, AllocError
         told.push(Note { at, end, text })?;
     }
     Ok(told)
+}
+
+/// What the grammar doesn't read at the place of a fault, if a token of WGSL is there, and it is among the first that are explained.
+pub fn explained(
+    text: Text<'_>,
+    misread: &[Misread],
+    place: Place,
+    left: &mut usize,
+) -> Option<Misread> {
+    let found = misread_at(misread, place.from)?;
+    let is_strange = text.strange(text.token(found.at)).is_some();
+    if !is_strange && is_explained(found, left) {
+        Some(found)
+    } else {
+        None
+    }
 }
 
 /// What the grammar doesn't read from a token on.

@@ -27,12 +27,6 @@ impl<'a> Source<'a> {
         }
     }
 
-    /// Whether no token of WGSL is at an index.
-    pub fn is_strange(self, at: usize) -> bool {
-        let whole = self.whole();
-        whole.strange(whole.token(at)).is_some()
-    }
-
     /// The index of the first byte of something.
     pub fn start(self, place: Place) -> usize {
         match self.tokens.get(place.from) {
