@@ -26,7 +26,8 @@ LINES = [
     ("call abs - bool", 2408, 634),
 ]
 
-# A line; its instructions in the Rust crate's program before expressions were read by WGSL's grammar.
+# A line; its instructions before expressions were read by WGSL's grammar, in the Rust crate's program `wgsl_standard` of that time.
+# As `wgsl ask` does now, it read lines from its standard input and wrote one reply per line.
 TYPES = [
     ("type 1 + 2", 3642),
     ("type dot(vec3f, vec3f)", 8532),

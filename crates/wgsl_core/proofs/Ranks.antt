@@ -104,16 +104,22 @@ walked_steps t u p q o n e f h = subst (λ t. Steps o t u n) (sym e) (subst (λ 
 
 -- Layers
 
-pub elements_rank : (t u e f : WgslType) (o : Option ℕ) → HaveElements t u e f → IsRank o e f → IsRank o t u
-elements_rank t u e f o k h =
-    subst (λ t. IsRank o t u) (sym k.1) (subst (λ u. IsRank o (within k.0 e) u) (sym k.2)
-    (λ w. (λ m. (converts_within k.0 k.0 e f w).1 (refl, (h w).0 m), λ m. (h w).1 ((converts_within k.0 k.0 e f w).0 m).1)))
+pub elements_convert : (t u e f : WgslType) (w : ℕ) → HaveElements t u e f → Converts t u w ↔ Converts e f w
+elements_convert t u e f w k =
+    subst (λ t. Converts t u w ↔ Converts e f w) (sym k.1) (subst (λ u. Converts (within k.0 e) u w ↔ Converts e f w) (sym k.2)
+    (λ h. ((converts_within k.0 k.0 e f w).0 h).1, λ h. (converts_within k.0 k.0 e f w).1 (refl, h)))
 
-pub elements_steps : (t u e f : WgslType) (o : Option ℕ) (n : ℕ) → HaveElements t u e f → Steps o e f n → Steps o t u n
-elements_steps t u e f None n k h = h
-elements_steps t u e f (Some w) n k h =
-    subst (λ t. ConvertsIn t u w n) (sym k.1) (subst (λ u. ConvertsIn (within k.0 e) u w n) (sym k.2)
-    ((converts_in_within k.0 k.0 e f w n).1 (refl, h)))
+pub elements_convert_in : (t u e f : WgslType) (w n : ℕ) → HaveElements t u e f → ConvertsIn t u w n ↔ ConvertsIn e f w n
+elements_convert_in t u e f w n k =
+    subst (λ t. ConvertsIn t u w n ↔ ConvertsIn e f w n) (sym k.1) (subst (λ u. ConvertsIn (within k.0 e) u w n ↔ ConvertsIn e f w n) (sym k.2)
+    (λ h. ((converts_in_within k.0 k.0 e f w n).0 h).1, λ h. (converts_in_within k.0 k.0 e f w n).1 (refl, h)))
+
+pub same_ranks : (t u e f : WgslType) (o : Option ℕ) → ((w : ℕ) → Converts t u w ↔ Converts e f w) → IsRank o e f → IsRank o t u
+same_ranks t u e f o k h w = (λ m. (k w).1 ((h w).0 m), λ m. (h w).1 ((k w).0 m))
+
+pub same_steps : (t u e f : WgslType) (o : Option ℕ) (n : ℕ) → ((w n : ℕ) → ConvertsIn t u w n ↔ ConvertsIn e f w n) → Steps o e f n → Steps o t u n
+same_steps t u e f None n k h = h
+same_steps t u e f (Some w) n k h = (k w n).1 h
 
 pub elements_fewer : (t u e f : WgslType) → HaveElements t u e f → layers e < layers t
 elements_fewer t u e f h = subst (λ t. layers e < layers t) (sym h.1) (omega arith)

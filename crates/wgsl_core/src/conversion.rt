@@ -27,7 +27,11 @@ use wgsl_syntax::scalar::Scalar;
 pub fn conversion_rank(a: &Type, b: &Type) -> Option<u32>
     ensures { (w : ℕ) → (result ≡ Some w) ↔ Converts (view a.now) (view b.now) w }
 {
-    rank_steps(a, b).0
+    let (from, to) = without_equal_layers(a, b);
+    match scalars(from, to) {
+        Some((source, target)) => scalar_rank(source, target),
+        None => rank_below_layers(from, to).0,
+    }
 }
 
 /// Both scalars, if both types are scalars.
@@ -97,16 +101,30 @@ pub fn rank_steps(a: &Type, b: &Type) -> (Option<u32>, u32)
     ensures few { result.1 ≤ 2 }
     ensures steps { IfSome result.0 (λ w. ConvertsIn (view a.now) (view b.now) w result.1) }
 {
+    let (from, to) = without_equal_layers(a, b);
+    match scalars(from, to) {
+        Some((source, target)) => walk(Node::Scalar(source), Node::Scalar(target)),
+        None => rank_below_layers(from, to),
+    }
+}
+
+/// The types inside the layers that both types have.
+#[inline(always)]
+fn without_equal_layers<'a>(a: &'a Type, b: &'a Type) -> (&'a Type, &'a Type)
+    ensures bare { (e f : WgslType)
+        → ¬ HaveElements (view result.0.now) (view result.1.now) e f }
+    ensures rank { (w : ℕ) → Converts (view a.now) (view b.now) w
+        ↔ Converts (view result.0.now) (view result.1.now) w }
+    ensures steps { (w n : ℕ) → ConvertsIn (view a.now) (view b.now) w n
+        ↔ ConvertsIn (view result.0.now) (view result.1.now) w n }
+{
     let mut from = a;
     let mut to = b;
     while let Some((element, target)) = elements(from, to) {
         from = element;
         to = target;
     }
-    match scalars(from, to) {
-        Some((source, target)) => walk(Node::Scalar(source), Node::Scalar(target)),
-        None => rank_below_layers(from, to),
-    }
+    (from, to)
 }
 
 /// The elements of both types, if both have the same layer.

@@ -192,11 +192,32 @@ fn atomic_size(ty: &Type) -> u32
     }
 }
 
+/// It calls nothing for a vector of scalars, so that it needs no stack for these.
 #[cycle(measure)]
 fn vector_measure(rules: RuleSet, n: u8, ty: &Type) -> Measure
     ensures { IsMeasure rules (vec n (view ty.now)) result }
 {
-    let component = ty.measure(rules);
+    match ty.scalar() {
+        Some(scalar) => vector_of(rules, n, ty, measure_of_scalar(scalar)),
+        None => vector_of_others(rules, n, ty),
+    }
+}
+
+#[cycle(measure)]
+#[inline(never)]
+fn vector_of_others(rules: RuleSet, n: u8, ty: &Type) -> Measure
+    requires { scalar_of (view ty.now) ≡ None }
+    ensures { IsMeasure rules (vec n (view ty.now)) result }
+{
+    vector_of(rules, n, ty, ty.measure_of_others(rules))
+}
+
+/// The measure of a vector, by that of its components.
+#[inline(always)]
+fn vector_of(rules: RuleSet, n: u8, ty: &Type, component: Measure) -> Measure
+    requires { IsMeasure rules (view ty.now) component }
+    ensures { IsMeasure rules (vec n (view ty.now)) result }
+{
     Measure {
         size: times(u32::from(n), component.size),
         align: vector_align(rules, n, ty, component.size),

@@ -2,7 +2,7 @@ use Rattle.std.proofs.Common.{◌∙◌, subst, sym}
 use Rattle.wgsl_core.specs.View.{view}
 use Rattle.wgsl_core.specs.declared.layout.placing.Placing.{Placing}
 use Rattle.wgsl_core.specs.internal.Layout.{IsMeasure}
-use Rattle.wgsl_core.proofs.Layouts.{MeasureSoFar, vector_measure, matrix_measure, array_measure, measure_starts, measure_stops, measure_goes_on, measure_ends}
+use Rattle.wgsl_core.proofs.Layouts.{MeasureSoFar, matrix_measure, array_measure, measure_starts, measure_stops, measure_goes_on, measure_ends}
 use Rattle.wgsl_core.proofs.Scalars.{scalar_is}
 use Rattle.wgsl_core.proofs.+measure.Goals as goal
 
@@ -11,10 +11,10 @@ ty::Type::measure-returns-in-Some t c =
     let is = (scalar_is (view c.args.self.now) c.in-Some.scalar).0 (sym c.scalar.ensures ∙ c.in-Some.is) in
     subst (λ u. IsMeasure c.args.rules u c.measure_of_scalar.result) (sym is) (c.measure_of_scalar.ensures c.args.rules)
 
-pub layout::vector_measure-returns : goal.layout::vector_measure-returns
-layout::vector_measure-returns t c =
-    vector_measure c.args.n c.from.result (view c.args.ty.now) c.measure-component.result c.times.result c.vector_align.result
-    c.from.ensures c.measure-component.ensures c.times.ensures c.vector_align.ensures
+pub layout::vector_measure-vector_of-requires : goal.layout::vector_measure-vector_of-requires
+layout::vector_measure-vector_of-requires t c =
+    let is = (scalar_is (view c.args.ty.now) c.in-Some.scalar).0 (sym c.scalar.ensures ∙ c.in-Some.is) in
+    subst (λ u. IsMeasure c.args.rules u c.measure_of_scalar.result) (sym is) (c.measure_of_scalar.ensures c.args.rules)
 
 pub layout::matrix_measure-returns : goal.layout::matrix_measure-returns
 layout::matrix_measure-returns t c =
