@@ -1,14 +1,9 @@
 -- The laws that the contracts state.
 use Rattle.std.proofs.Common.{◌≢◌, List, [], ◌∷◌, Option, Some, None, All, IsPermutation, refl, sym, ◌∙◌, ap, subst, inl, inr, arith}
-use Rattle.wgsl_rules.specs.types.Types.{WgslType}
-use Rattle.wgsl_rules.specs.conversion.Conversion.{IsValueType, ConvertsTo}
-use Rattle.wgsl_rules.specs.conversion.Common.{IsLeftCommon}
-use Rattle.wgsl_rules.specs.Headline.{Receives, IsLeastCommon}
+use Rattle.wgsl_rules.proofs.Common.{WgslType, IsValueType, ConvertsTo, IsLeftCommon, Receives, IsLeastCommon, BinaryOperator, Name}
 use Rattle.wgsl_rules.specs.Laws.{ConversionOrder, RanksAdd, TargetsComparable, RankNamesTarget, CommonAnyOrder, LeftCommonIsLeast, CommonSymmetric, OneChoice}
 use Rattle.wgsl_rules.specs.internal.Laws.{RowIsChoice}
 use Rattle.wgsl_rules.proofs.operators.ChosenRows.{two_values, row_chosen, row_refused}
-use Rattle.wgsl_syntax.specs.declared.operator.BinaryOperator.{BinaryOperator}
-use Rattle.wgsl_rules.specs.operators.Candidates.{Name}
 use Rattle.wgsl_rules.proofs.operators.Choices.{some_choice, choice_once}
 use Rattle.wgsl_rules.proofs.conversion.Steps.{depth, depth_small}
 use Rattle.wgsl_rules.proofs.conversion.Order.{Above, here, above_level, above_trans, above_chain, above_same_depth, above_along, above_converts, value_converts, converts_once, converts_antisym}

@@ -1,7 +1,6 @@
 -- Conversions with the number of their steps.
 use Rattle.std.proofs.Common.{◌≡◌, ℕ, ◌+◌, ◌≤◌, ◌↔◌, length, refl, sym, ◌∙◌, ap, subst, inl, inr, arith}
-use Rattle.wgsl_rules.specs.types.Types.{Layer, WgslType, within}
-use Rattle.wgsl_rules.specs.conversion.Conversion.{Path, PathOf, Load, load_inside, Converts, ConvertsIn}
+use Rattle.wgsl_rules.proofs.Common.{Layer, WgslType, within, Path, PathOf, Load, load_inside, Converts, ConvertsIn}
 use Rattle.wgsl_rules.proofs.conversion.Steps.{depth, height, height_small, step_height}
 use Rattle.wgsl_rules.proofs.conversion.Order.{Above, here, further, above_from_within, above_inside, along_above, above_along, path_height, load_above, load_within, converts_once}
 

@@ -1,11 +1,7 @@
 -- Paths lead from parents to children: the types above a type are a chain, and weights are differences of ranks from
 -- the root.
 use Rattle.std.proofs.Common.{◌≡◌, ◌≢◌, ℕ, zero, suc, ◌+◌, ◌<◌, ◌≤◌, ◌-◌, ◌⊎◌, ◌↔◌, List, [], ◌∷◌, ◌++◌, length, refl, sym, ◌∙◌, ap, subst, inl, inr, arith, le_refl}
-use Rattle.wgsl_syntax.specs.declared.address.AddressSpace.{AddressSpace}
-use Rattle.wgsl_syntax.specs.declared.address.AccessMode.{AccessMode}
-use Rattle.wgsl_syntax.specs.declared.address.AccessMode.TheVariants.{Read, Write, ReadWrite, Atomic}
-use Rattle.wgsl_rules.specs.types.Types.{Layer, WgslType, within, reference}
-use Rattle.wgsl_syntax.specs.Address.{MayRead}
+use Rattle.wgsl_rules.proofs.Common.{AddressSpace, AccessMode, Read, Write, ReadWrite, Atomic, Layer, WgslType, within, reference, MayRead}
 use Rattle.wgsl_rules.specs.conversion.Conversion.{Step, inside, IsValueType, Leg, IsPath, path_weight, Load, load, load_inside, Path, Converts, ConvertsTo}
 use Rattle.wgsl_rules.proofs.types.Equality.{same_type, same_layer}
 use Rattle.wgsl_rules.proofs.conversion.Steps.{depth, height, height_small, step_height, target, step_depth, step_positive, step_parent, step_target, step_family, step_values, step_to_within, step_from_within, IsChild, child}

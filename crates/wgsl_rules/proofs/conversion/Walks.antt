@@ -1,18 +1,8 @@
 -- A conversion between nodes is a walk from the target to its parents, until it meets the source.
 use Rattle.std.proofs.Common.{◌≡◌, ◌≢◌, ℕ, ◌+◌, ◌-◌, ◌<◌, ◌≤◌, ◌⊎◌, ◌↔◌, Some, None, cond, eqb, refl, sym, ◌∙◌, ap, subst, subst₂, inl, inr, arith}
-use Rattle.wgsl_syntax.specs.declared.scalar.Scalar.{Scalar}
-use Rattle.wgsl_syntax.specs.declared.scalar.Scalar.TheVariants.{Bool, AbstractInt, AbstractFloat, I32, U32, F32, F16, I64, U64, F64}
-use Rattle.wgsl_syntax.specs.declared.address.AddressSpace.{AddressSpace}
-use Rattle.wgsl_syntax.specs.declared.address.AccessMode.{AccessMode}
-use Rattle.wgsl_syntax.specs.declared.result_struct.ResultFunction.{ResultFunction}
-use Rattle.wgsl_syntax.specs.declared.result_struct.ResultShape.{ResultShape}
-use Rattle.wgsl_syntax.specs.declared.result_struct.ResultPrecision.{ResultPrecision}
+use Rattle.wgsl_rules.proofs.Common.{Scalar, Bool, AbstractInt, AbstractFloat, I32, U32, F32, F16, I64, U64, F64, AddressSpace, AccessMode, ResultFunction, ResultShape, ResultPrecision, WgslType, scalar, within, reference, float_of, result_struct, MayRead, Node, at_scalar, at_result, type_at, parent_of, rank_from_root}
 use Rattle.wgsl_syntax.specs.declared.result_struct.ResultPrecision.TheVariants as precision
-use Rattle.wgsl_rules.specs.types.Types.{WgslType, scalar, within, reference}
-use Rattle.wgsl_rules.specs.types.ResultStructs.{float_of, result_struct}
-use Rattle.wgsl_syntax.specs.Address.{MayRead}
 use Rattle.wgsl_rules.specs.conversion.Conversion.{BaseStep, int_to_float, int_to_i32, int_to_u32, int_to_i64, int_to_u64, float_to_f32, float_to_f16, result_to_f32, result_to_f16, Step, base, inside, Path, PathOf, Load, load, load_inside, Converts, ConvertsIn}
-use Rattle.wgsl_rules.specs.internal.Nodes.{Node, at_scalar, at_result, type_at, parent_of, rank_from_root}
 use Rattle.wgsl_rules.proofs.conversion.Steps.{float_depth, depth, depth-result_struct, height, height_small, step_height, function_of, function_of-result_struct, shape_of, shape_of-result_struct, precision_at, IsLeaf, result_leaf}
 use Rattle.wgsl_rules.proofs.conversion.Order.{Above, here, further, above_to_within, along_above}
 use Rattle.wgsl_rules.proofs.conversion.Counts.{counted_above, above_counted, counted_converts}
