@@ -43,9 +43,6 @@ next_least x a m pos d le =
           omega (arith, h.1, up)
     ]
 
-pub next_mono : (x y a : ℕ) → 0 < a → x ≤ y → next_multiple_of x a ≤ next_multiple_of y a
-next_mono x y a pos le = let h : y ≤ next_multiple_of y a = next_ge y a in next_least x a (next_multiple_of y a) pos (next_dvd y a pos) (omega (arith, h))
-
 -- The first offsets
 
 abbrev pub Aligned : List MemberLayout → Type 0

@@ -117,15 +117,6 @@ belongs (each_either n m e) = record { form = _; at = vec n e; known = refl; ope
 belongs (mixed n h k s f) = record { form = mixed_form n h k; at = scalar s; known = mixed_known n h k k; operands = refl; result = refl; admitted = f }
 belongs (inserted t k) = record { form = _; at = t; known = refl; operands = refl; result = refl; admitted = admits_number t k }
 
--- all candidates that take the operands are of one family
-same_form : (n : Name) (ts us vs : List WgslType) (r s : WgslType) (vs' : List ℕ) (ws : List ℕ) → All IsValueType ts →
-    (a : Belongs n us r) (b : Belongs n vs s) → HasRanks ts us vs' → HasRanks ts vs ws → a.form ≡ b.form
-same_form n ts us vs r s ks ws va a b h k =
-    let eu = ap (λ os. form_of n os) (ranked_outers ts us ks va h) ∙ a.known in
-    let ev = ap (λ os. form_of n os) (ranked_outers ts vs ws va k) ∙ b.known in
-    let e : Some a.form ≡ Some b.form = sym eu ∙ ev in
-    cc e
-
 -- The member of a family at the least type that its kind admits: it takes the operands, and other members that are
 -- admitted and take them have higher ranks.
 record IsLeastIn (k : Kind) (ss : List Slot) (ts : List WgslType) (b : WgslType) : Type 0 where

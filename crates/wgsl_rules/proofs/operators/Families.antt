@@ -37,9 +37,6 @@ HasOpen (s ∷ ss) = Unit {0}
 
 -- a member of the family takes ts exactly if the types that they put convert to c
 
-put_fixed : (u : WgslType) (ss : List Slot) (t : WgslType) (ts : List WgslType) (es : List WgslType) → ConvertsTo t u → IsPut ss ts es → IsPut (fixed u ∷ ss) (t ∷ ts) es
-put_fixed u ss t ts es h k = (h, k)
-
 pub record Puts (ss : List Slot) (ts : List WgslType) (c : WgslType) : Type 0 where
   pub types : List WgslType
   pub put : IsPut ss ts types
