@@ -1,23 +1,11 @@
 -- Worked cases of the definitions.
 use Rattle.std.proofs.Common.{◌≡◌, ℕ, List, [], ◌∷◌, Some, None, Result, Ok, Err, codes, refl, inl, inr, arith}
-use Rattle.wgsl_syntax.specs.declared.scalar.Scalar.TheVariants.{AbstractInt, AbstractFloat, I32, U32, F32, F16}
-use Rattle.wgsl_syntax.specs.declared.address.AddressSpace.{AddressSpace}
-use Rattle.wgsl_syntax.specs.declared.address.AddressSpace.TheVariants.{Private}
-use Rattle.wgsl_syntax.specs.declared.address.AccessMode.{AccessMode}
-use Rattle.wgsl_syntax.specs.declared.address.AccessMode.TheVariants.{Read, Write, ReadWrite}
-use Rattle.wgsl_syntax.specs.declared.result_struct.ResultFunction.TheVariants.{Frexp}
+use Rattle.wgsl_rules.proofs.Common.{AbstractInt, AbstractFloat, I32, U32, F32, F16, AddressSpace, Private, AccessMode, Read, Write, ReadWrite, Frexp, plain_member, result_struct, Converts, ConvertsTo, load, load_inside, result_to_f32, base, IsConvertedInside, operator, IsLeastCandidate, concretized, Refusal, param_count, param_type}
 use Rattle.wgsl_syntax.specs.declared.result_struct.ResultShape.TheVariants as shape
 use Rattle.wgsl_syntax.specs.declared.result_struct.ResultPrecision.TheVariants as precision
 use Rattle.wgsl_rules.specs.types.Types.{array_of, vec_of, WgslType, Members, scalar, atomic, pointer, reference, struct, no_members, vec, mat, array}
-use Rattle.wgsl_rules.specs.types.ResultStructs.{plain_member, result_struct}
-use Rattle.wgsl_rules.specs.conversion.Conversion.{Converts, ConvertsTo, load, load_inside, result_to_f32, base}
-use Rattle.wgsl_rules.specs.conversion.Converted.{IsConvertedInside}
 use Rattle.wgsl_syntax.specs.declared.operator.BinaryOperator.TheVariants.{Addition, ShiftLeft, Multiplication}
-use Rattle.wgsl_rules.specs.operators.Candidates.{operator}
-use Rattle.wgsl_rules.specs.Headline.{IsLeastCandidate}
 use Rattle.wgsl_rules.specs.operators.Rows.{scalar_row, scalar_vector_row, matrix_vector_row, shift_row}
-use Rattle.wgsl_rules.specs.conversion.Concrete.{concretized}
-use Rattle.wgsl_rules.specs.errors.Refusals.{Refusal, param_count, param_type}
 use Rattle.wgsl_rules.specs.constructors.Constructors.{IsStructCall}
 use Rattle.wgsl_rules.proofs.conversion.Order.{Above, here, further}
 use Rattle.wgsl_rules.proofs.conversion.Equations.{converts_scalar, converts_inside, converts_within, converts_reference, converts_alone}

@@ -1,14 +1,8 @@
 -- The laws that the contracts state.
 use Rattle.std.proofs.Common.{◌≢◌, List, [], ◌∷◌, Option, Some, None, All, IsPermutation, refl, sym, ◌∙◌, ap, subst, inl, inr, arith}
-use Rattle.wgsl_rules.specs.types.Types.{WgslType}
-use Rattle.wgsl_rules.specs.conversion.Conversion.{IsValueType, ConvertsTo}
-use Rattle.wgsl_rules.specs.conversion.Common.{IsLeftCommon}
-use Rattle.wgsl_rules.specs.Headline.{Receives, IsLeastCommon}
+use Rattle.wgsl_rules.proofs.Common.{WgslType, IsValueType, ConvertsTo, IsLeftCommon, Receives, IsLeastCommon, Name}
 use Rattle.wgsl_rules.specs.Laws.{ConversionOrder, RanksAdd, TargetsComparable, RankNamesTarget, CommonAnyOrder, LeftCommonIsLeast, CommonSymmetric, OneChoice}
-use Rattle.wgsl_rules.specs.internal.Laws.{RowIsChoice}
-use Rattle.wgsl_rules.proofs.operators.ChosenRows.{two_values, row_chosen, row_refused}
-use Rattle.wgsl_syntax.specs.declared.operator.BinaryOperator.{BinaryOperator}
-use Rattle.wgsl_rules.specs.operators.Candidates.{Name}
+use Rattle.wgsl_rules.proofs.operators.ChosenRows.{two_values}
 use Rattle.wgsl_rules.proofs.operators.Choices.{some_choice, choice_once}
 use Rattle.wgsl_rules.proofs.conversion.Steps.{depth, depth_small}
 use Rattle.wgsl_rules.proofs.conversion.Order.{Above, here, above_level, above_trans, above_chain, above_same_depth, above_along, above_converts, value_converts, converts_once, converts_antisym}
@@ -84,9 +78,3 @@ one_choice n ts vs = record {
 
 pub one_choice_of_two : (n : Name) (a b : WgslType) → IsValueType a → IsValueType b → OneChoice n (a ∷ b ∷ [])
 one_choice_of_two n a b va vb = one_choice n (a ∷ b ∷ []) (two_values a b va vb)
-
-pub row_is_choice : (o : BinaryOperator) (a b : WgslType) → IsValueType a → IsValueType b → RowIsChoice o a b
-row_is_choice o a b va vb = record {
-  chosen = λ l r s k. row_chosen k va vb;
-  refused = row_refused o a b va vb;
-}

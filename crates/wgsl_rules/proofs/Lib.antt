@@ -1,3 +1,4 @@
+pub mod Common
 pub mod types
 pub mod conversion
 pub mod layout

@@ -1,17 +1,7 @@
 -- An operand with dimensions and components requires the same as its type.
-use Rattle.std.proofs.Common.{◌≡◌, Bool, true, false, None, refl}
-use Rattle.std.specs.Prelude.{Decides}
-use Rattle.wgsl_syntax.specs.declared.scalar.Scalar.{Scalar}
-use Rattle.wgsl_syntax.specs.declared.overload.Dimensions.{Dimensions}
-use Rattle.wgsl_syntax.specs.declared.overload.Dimensions.TheVariants.{Single}
-use Rattle.wgsl_syntax.specs.declared.overload.Pattern.{Pattern}
+use Rattle.std.proofs.Common.{◌≡◌, Bool, true, false, None, refl, Decides}
+use Rattle.wgsl_standard.proofs.Common.{Scalar, Dimensions, Single, Pattern, texture, sampler, value_of, type_with, Binding, type_eq_decides, bind_if, bind_pattern, bind_value}
 use Rattle.wgsl_syntax.specs.declared.overload.Pattern.TheVariants as patterns
-use Rattle.wgsl_rules.specs.types.Types.{texture, sampler}
-use Rattle.wgsl_rules.specs.standard.Choice.{value_of}
-use Rattle.wgsl_rules.specs.standard.Overloads.{type_with}
-use Rattle.wgsl_standard.specs.declared.binding.Binding.{Binding}
-use Rattle.wgsl_core.specs.Equality.{type_eq_decides}
-use Rattle.wgsl_standard.specs.internal.Binding.{bind_if, bind_pattern, bind_value}
 
 unequal : (v : Bool) (P : Type 0) (b : Binding) → Decides v P → ¬ P → bind_if v b ≡ None
 unequal true P b d n = absurd (n (d.0 refl))

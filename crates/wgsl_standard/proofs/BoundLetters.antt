@@ -1,23 +1,10 @@
 -- Which letters a binding binds: each letter for a scalar that the parameters have.
-use Rattle.std.proofs.Common.{◌≡◌, ℕ, ◌==◌, List, [], ◌∷◌, Option, Some, None, Bool, true, false, cond, refl, subst}
-use Rattle.std.specs.Prelude.{IsTrue, option_map, option_and_then}
-use Rattle.wgsl_syntax.specs.declared.scalar.Scalar.{Scalar}
-use Rattle.wgsl_syntax.specs.declared.overload.Component.{Component}
+use Rattle.std.proofs.Common.{◌≡◌, ℕ, ◌==◌, List, [], ◌∷◌, Option, Some, None, Bool, true, false, cond, refl, subst, IsTrue, option_map, option_and_then}
+use Rattle.wgsl_standard.proofs.Common.{Scalar, Component, Count, Shape, Pattern, texture, sampler, letter_of, type_eq, Dimensions, Single, Vector, Matrix, Operand, Binding, parts_of}
 use Rattle.wgsl_syntax.specs.declared.overload.Component.TheVariants.{T, U, V, W, The}
-use Rattle.wgsl_syntax.specs.declared.overload.Count.{Count}
 use Rattle.wgsl_syntax.specs.declared.overload.Count.TheVariants.{N, M, K, Exactly}
-use Rattle.wgsl_syntax.specs.declared.overload.Shape.{Shape}
 use Rattle.wgsl_syntax.specs.declared.overload.Shape.TheVariants as shapes
-use Rattle.wgsl_syntax.specs.declared.overload.Pattern.{Pattern}
 use Rattle.wgsl_syntax.specs.declared.overload.Pattern.TheVariants as patterns
-use Rattle.wgsl_rules.specs.types.Types.{texture, sampler}
-use Rattle.wgsl_rules.specs.standard.Resources.{letter_of}
-use Rattle.wgsl_core.specs.Equality.{type_eq}
-use Rattle.wgsl_syntax.specs.declared.overload.Dimensions.{Dimensions}
-use Rattle.wgsl_syntax.specs.declared.overload.Dimensions.TheVariants.{Single, Vector, Matrix}
-use Rattle.wgsl_rules.specs.standard.Choice.{Operand}
-use Rattle.wgsl_standard.specs.declared.binding.Binding.{Binding}
-use Rattle.wgsl_standard.specs.internal.Parts.{parts_of}
 use Rattle.wgsl_standard.specs.internal.Binding.{converts, may_be, join_to, with_t, with_u, with_v, with_w, bind_component, same_count, bind_count, same_width, with_width, bind_shape, bind_parts, bind_letter, bind, bind_all, is_bound}
 
 abbrev pub Binds : Binding → Component → Type 0

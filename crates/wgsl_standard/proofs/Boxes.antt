@@ -1,28 +1,11 @@
 -- The substitutions of an overload that take operands are those that agree with a binding: a condition on each letter alone.
-use Rattle.std.proofs.Common.{◌≡◌, ℕ, ◌↔◌, ◌==◌, List, [], ◌∷◌, Option, Some, None, Bool, true, false, cond, refl, sym, ◌∙◌, ap, subst, true≢false}
-use Rattle.std.specs.Prelude.{IsTrue, option_map, option_and_then}
-use Rattle.std.proofs.lemmas.Bool.{eq-eqb, eqb-true}
-use Rattle.std.specs.Bool.{Decides}
-use Rattle.wgsl_syntax.specs.declared.scalar.Scalar.{Scalar}
-use Rattle.wgsl_syntax.specs.declared.overload.Component.{Component}
+use Rattle.std.proofs.Common.{◌≡◌, ℕ, ◌↔◌, ◌==◌, List, [], ◌∷◌, Option, Some, None, Bool, true, false, cond, refl, sym, ◌∙◌, ap, subst, true≢false, IsTrue, option_map, option_and_then, eq-eqb, eqb-true, Decides}
+use Rattle.wgsl_standard.proofs.Common.{Scalar, Component, Count, Shape, Pattern, WgslType, texture, sampler, letter_of, type_eq, type_eq_decides, Dimensions, Single, Vector, Matrix, Operand, Substitution, Binding, count_in, one_or_vector, dimensions_in, component_in, Names, parts_of}
 use Rattle.wgsl_syntax.specs.declared.overload.Component.TheVariants.{T, U, V, W, The}
-use Rattle.wgsl_syntax.specs.declared.overload.Count.{Count}
 use Rattle.wgsl_syntax.specs.declared.overload.Count.TheVariants.{N, M, K, Exactly}
-use Rattle.wgsl_syntax.specs.declared.overload.Shape.{Shape}
 use Rattle.wgsl_syntax.specs.declared.overload.Shape.TheVariants as shapes
-use Rattle.wgsl_syntax.specs.declared.overload.Pattern.{Pattern}
 use Rattle.wgsl_syntax.specs.declared.overload.Pattern.TheVariants as patterns
-use Rattle.wgsl_rules.specs.types.Types.{WgslType, texture, sampler}
-use Rattle.wgsl_rules.specs.standard.Resources.{letter_of}
-use Rattle.wgsl_core.specs.Equality.{type_eq, type_eq_decides}
-use Rattle.wgsl_syntax.specs.declared.overload.Dimensions.{Dimensions}
-use Rattle.wgsl_syntax.specs.declared.overload.Dimensions.TheVariants.{Single, Vector, Matrix}
-use Rattle.wgsl_rules.specs.standard.Choice.{Operand}
-use Rattle.wgsl_syntax.specs.declared.overload.Substitution.{Substitution}
-use Rattle.wgsl_standard.specs.declared.binding.Binding.{Binding}
-use Rattle.wgsl_rules.specs.standard.Overloads.{count_in, one_or_vector, dimensions_in, component_in, Names}
 use Rattle.wgsl_standard.specs.internal.Binding.{converts, may_be, join, join_to, with_t, with_u, with_v, with_w, bind_component, same_count, bind_count, same_width, with_width, bind_shape, bind_parts, bind_letter, bind_if, bind, bind_all}
-use Rattle.wgsl_standard.specs.internal.Parts.{parts_of}
 use Rattle.wgsl_standard.proofs.Parts.{pair_of}
 use Rattle.wgsl_standard.proofs.Scalars.{Reaches, JoinsTo, joins, concrete_reaches, reaches_itself, may_either}
 use Rattle.wgsl_standard.proofs.Letters.{Says, letter_says}

@@ -1,19 +1,7 @@
 -- In a table, the first overload that takes the operands has the preferred candidate at its least substitution.
-use Rattle.std.proofs.Common.{◌≡◌, ℕ, zero, suc, ◌<◌, ◌≤◌, ◌⊎◌, List, [], ◌∷◌, map, Option, Some, None, Bool, refl, sym, ◌∙◌, ap, subst, inl, inr, arith, le_refl}
-use Rattle.std.specs.Prelude.{slice_get, option_map}
-use Rattle.wgsl_rules.specs.types.Types.{WgslType}
-use Rattle.wgsl_rules.specs.operators.Choice.{IsNowhereMore, IsSomewhereLess}
-use Rattle.wgsl_rules.specs.internal.Nodes.{scalar_depth}
-use Rattle.wgsl_rules.proofs.conversion.Steps.{depth}
-use Rattle.wgsl_syntax.specs.declared.overload.Pattern.{Pattern}
+use Rattle.std.proofs.Common.{◌≡◌, ℕ, zero, suc, ◌<◌, ◌≤◌, ◌⊎◌, List, [], ◌∷◌, map, Option, Some, None, Bool, refl, sym, ◌∙◌, ap, subst, inl, inr, arith, le_refl, slice_get, option_map}
+use Rattle.wgsl_standard.proofs.Common.{WgslType, IsNowhereMore, IsSomewhereLess, scalar_depth, depth, Pattern, Component, Overload, Operand, TakesOperands, parameter_for, parameters_for, result_for, IsChosen, Substitution, dimensions_in, component_in, patterns_of, IsSubstitution, IsCandidateOf, HasOneResult, IsPreferredTo, IsPreferredToAll, AreInOrder, IsUnambiguous, must_be_concrete, substitution_of, or_later, later, first_of}
 use Rattle.wgsl_syntax.specs.declared.overload.Pattern.TheVariants as patterns
-use Rattle.wgsl_syntax.specs.declared.overload.Component.{Component}
-use Rattle.wgsl_syntax.specs.declared.overload.Overload.{Overload}
-use Rattle.wgsl_rules.specs.standard.Choice.{Operand, TakesOperands, parameter_for, parameters_for, result_for, IsChosen}
-use Rattle.wgsl_syntax.specs.declared.overload.Substitution.{Substitution}
-use Rattle.wgsl_rules.specs.standard.Overloads.{dimensions_in, component_in, patterns_of, IsSubstitution, IsCandidateOf}
-use Rattle.wgsl_rules.specs.standard.Tables.{HasOneResult, IsPreferredTo, IsPreferredToAll, AreInOrder, IsUnambiguous}
-use Rattle.wgsl_standard.specs.internal.Binding.{must_be_concrete, substitution_of, or_later, later, first_of}
 use Rattle.wgsl_standard.proofs.Boxes.{same_operand, Fit, AllFit}
 use Rattle.wgsl_standard.proofs.Ranks.{depth_type_with, ranks_fit, parameters_are, fit_ranks, fit_values, constant_takable, takable_constant, ranks_below, ranks_less}
 use Rattle.wgsl_standard.proofs.LeastSubstitutions.{IsNear, IsNearFor, AllNear, IsLeastSubstitution, LeastOr, least_substitution}

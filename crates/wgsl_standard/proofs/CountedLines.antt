@@ -1,16 +1,6 @@
 -- The lines of overloads, counted.
-use Rattle.std.proofs.Common.{◌≡◌, ◌∙◌, ◌+◌, ◌-◌, ◌<◌, ◌≤◌, ◌++◌, ℕ, suc, Bool, false, List, [], ◌∷◌, Some, ap, arith, cond, drop, get_or, length, refl, slice_get, sym, take}
-use Rattle.std.proofs.Math.Seq.{drop-cons, take-suc}
-use Rattle.std.proofs.lemmas.List.{append-nil, length-append}
-use Rattle.std.proofs.lemmas.List.Concat.{flat_map-append}
-use Rattle.std.specs.List.{flat_map}
-use Rattle.wgsl_syntax.specs.declared.overload.Overload.{Overload}
-use Rattle.wgsl_rules.specs.standard.Signatures.{overload_lines, signature_lines}
-use Rattle.wgsl_standard.specs.Callees.{WgslCallee, callee_view, overloads_of}
-use Rattle.wgsl_standard.specs.Explained.{or_none}
-use Rattle.wgsl_standard.specs.Lines.{callees_before, line_of_overload, lines_before}
-use Rattle.wgsl_standard.specs.Texts.{lines_listed, name_of, texts_listed}
-use Rattle.wgsl_standard.specs.declared.callee.Callee.{Callee}
+use Rattle.std.proofs.Common.{◌≡◌, ◌∙◌, ◌+◌, ◌-◌, ◌<◌, ◌≤◌, ◌++◌, ℕ, suc, Bool, false, List, [], ◌∷◌, Some, ap, arith, cond, drop, get_or, length, refl, slice_get, sym, take, append-nil, length-append, flat_map}
+use Rattle.wgsl_standard.proofs.Common.{drop-cons, take-suc, flat_map-append, Overload, overload_lines, signature_lines, WgslCallee, callee_view, overloads_of, or_none, callees_before, line_of_overload, lines_before, lines_listed, name_of, texts_listed, Callee}
 use Rattle.wgsl_standard.proofs.Listed.{next, stands}
 
 -- the lines of one more overload

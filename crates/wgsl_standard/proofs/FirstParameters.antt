@@ -1,14 +1,6 @@
 -- The test `takes_first` says whether the first parameters of an overload take operands.
-use Rattle.std.proofs.Common.{◌≡◌, ℕ, ◌+◌, ◌<◌, arith, zero, suc, ◌↔◌, List, [], ◌∷◌, map, length, take, Option, Some, None, Bool, true, false, cond, refl, sym, ◌∙◌, subst, true≢false}
-use Rattle.std.specs.Prelude.{IsTrue, option_and_then, slice_get}
-use Rattle.wgsl_syntax.specs.declared.overload.Pattern.{Pattern}
-use Rattle.wgsl_syntax.specs.declared.overload.Overload.{Overload}
-use Rattle.wgsl_rules.specs.standard.Choice.{Operand, parameters_for}
-use Rattle.wgsl_syntax.specs.declared.overload.Substitution.{Substitution}
-use Rattle.wgsl_standard.specs.declared.binding.Binding.{Binding}
-use Rattle.wgsl_rules.specs.standard.Overloads.{patterns_of}
-use Rattle.wgsl_rules.specs.standard.Refusal.{TakesFirst, SomeTakesFirst, IsRefusedAt}
-use Rattle.std.proofs.lemmas.List.{take-map, length-map}
+use Rattle.std.proofs.Common.{◌≡◌, ℕ, ◌+◌, ◌<◌, arith, zero, suc, ◌↔◌, List, [], ◌∷◌, map, length, take, Option, Some, None, Bool, true, false, cond, refl, sym, ◌∙◌, subst, true≢false, IsTrue, option_and_then, slice_get}
+use Rattle.wgsl_standard.proofs.Common.{Pattern, Overload, Operand, parameters_for, Substitution, Binding, patterns_of, TakesFirst, SomeTakesFirst, IsRefusedAt, take-map, length-map}
 use Rattle.wgsl_standard.specs.internal.Binding.{must_be_concrete, bind, bind_all, bind_first, free, settle, is_substitution, takes_first, some_takes_first}
 use Rattle.wgsl_standard.proofs.Ranks.{ranks_fit, fit_ranks, fit_values, constant_takable, takable_constant}
 use Rattle.wgsl_standard.proofs.Lengths.{and_then_same}

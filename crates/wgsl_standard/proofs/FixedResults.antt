@@ -1,29 +1,14 @@
 -- Parameters determine the result, if the letters of the result stand among them.
-use Rattle.std.proofs.Common.{◌≡◌, List, [], ◌∷◌, Some, Bool, refl, sym, ◌∙◌, ap, inl, inr, true≢false}
-use Rattle.std.specs.Prelude.{IsTrue}
-use Rattle.std.specs.List.{list_any}
-use Rattle.std.proofs.lemmas.Bool.{and_parts, or_cases}
-use Rattle.wgsl_syntax.specs.declared.scalar.Scalar.{Scalar}
-use Rattle.wgsl_syntax.specs.declared.overload.Component.{Component}
+use Rattle.std.proofs.Common.{◌≡◌, List, [], ◌∷◌, Some, Bool, refl, sym, ◌∙◌, ap, inl, inr, true≢false, IsTrue}
+use Rattle.wgsl_standard.proofs.Common.{list_any, and_parts, or_cases, Scalar, Component, Count, Shape, Pattern, Overload, Dimensions, Single, Vector, Matrix, Substitution, WgslType, scalar, result_struct, letter_of, precision_of, HasOneResult}
 use Rattle.wgsl_syntax.specs.declared.overload.Component.TheVariants.{T, The}
-use Rattle.wgsl_syntax.specs.declared.overload.Count.{Count}
 use Rattle.wgsl_syntax.specs.declared.overload.Count.TheVariants.{N, Exactly}
-use Rattle.wgsl_syntax.specs.declared.overload.Shape.{Shape}
 use Rattle.wgsl_syntax.specs.declared.overload.Shape.TheVariants as shapes
-use Rattle.wgsl_syntax.specs.declared.overload.Pattern.{Pattern}
 use Rattle.wgsl_syntax.specs.declared.overload.Pattern.TheVariants as patterns
 use Rattle.wgsl_syntax.specs.declared.overload.Returns.{Returns}
 use Rattle.wgsl_syntax.specs.declared.overload.Returns.TheVariants.{Gives, GivesStruct, GivesExchange}
-use Rattle.wgsl_syntax.specs.declared.overload.Overload.{Overload}
-use Rattle.wgsl_syntax.specs.declared.overload.Dimensions.{Dimensions}
-use Rattle.wgsl_syntax.specs.declared.overload.Dimensions.TheVariants.{Single, Vector, Matrix}
-use Rattle.wgsl_syntax.specs.declared.overload.Substitution.{Substitution}
-use Rattle.wgsl_rules.specs.types.Types.{WgslType, scalar}
-use Rattle.wgsl_rules.specs.types.ResultStructs.{result_struct}
 use Rattle.wgsl_rules.specs.calls.ResultTypes.{exchange_struct}
-use Rattle.wgsl_rules.specs.standard.Resources.{letter_of, precision_of}
 use Rattle.wgsl_rules.specs.standard.Overloads.{type_with, count_in, dimensions_in, component_in, patterns_of, result_of, result_in, IsParameter, AreParameters}
-use Rattle.wgsl_rules.specs.standard.Tables.{HasOneResult}
 use Rattle.wgsl_standard.specs.internal.FixedResults.{same_letter, fixes, has_component, same_count_letter, shape_of, count_in_shape, has_count, is_either, has_shape, is_fixed, has_one_result}
 use Rattle.wgsl_standard.proofs.Letters.{letter_once, letter_says}
 

@@ -1,20 +1,8 @@
 -- The substitution that is found: it takes the operands, and no other that takes them has a lower scalar anywhere.
-use Rattle.std.proofs.Common.{◌≡◌, ℕ, ◌<◌, ◌⊎◌, List, [], ◌∷◌, Option, Some, None, Bool, true, false, cond, refl, sym, ◌∙◌, subst, inl, inr, true≢false}
-use Rattle.std.specs.Prelude.{IsTrue, option_map, option_and_then}
-use Rattle.wgsl_syntax.specs.declared.scalar.Scalar.{Scalar}
-use Rattle.wgsl_syntax.specs.declared.scalar.Scalar.TheVariants.{Bool as BoolScalar}
-use Rattle.wgsl_rules.specs.internal.Nodes.{scalar_depth}
-use Rattle.wgsl_syntax.specs.declared.overload.Kind.{Kind}
-use Rattle.wgsl_syntax.specs.declared.overload.Component.{Component}
+use Rattle.std.proofs.Common.{◌≡◌, ℕ, ◌<◌, ◌⊎◌, List, [], ◌∷◌, Option, Some, None, Bool, true, false, cond, refl, sym, ◌∙◌, subst, inl, inr, true≢false, IsTrue, option_map, option_and_then}
+use Rattle.wgsl_standard.proofs.Common.{Scalar, Bool as BoolScalar, scalar_depth, Kind, Component, Pattern, Overload, Operand, Substitution, Binding, component_in, patterns_of, kinds_of, IsSubstitution, is_of_kind}
 use Rattle.wgsl_syntax.specs.declared.overload.Component.TheVariants.{T, U, V, W, The}
-use Rattle.wgsl_syntax.specs.declared.overload.Pattern.{Pattern}
 use Rattle.wgsl_syntax.specs.declared.overload.Pattern.TheVariants as patterns
-use Rattle.wgsl_syntax.specs.declared.overload.Overload.{Overload}
-use Rattle.wgsl_rules.specs.standard.Choice.{Operand}
-use Rattle.wgsl_syntax.specs.declared.overload.Substitution.{Substitution}
-use Rattle.wgsl_standard.specs.declared.binding.Binding.{Binding}
-use Rattle.wgsl_rules.specs.standard.Overloads.{component_in, patterns_of, kinds_of, IsSubstitution}
-use Rattle.wgsl_rules.specs.standard.LetterKinds.{is_of_kind}
 use Rattle.wgsl_standard.specs.internal.Binding.{may_be, bind_all, free, targets, is_bound, first_of_kind, pick, or_zero, or_none, substitution_at, settle, substitution_of}
 use Rattle.wgsl_standard.proofs.Scalars.{Member, IsPicked, find, has, picked}
 use Rattle.wgsl_standard.proofs.Boxes.{Meets, Same, Agrees, Boxes, AllFit, all_boxes}

@@ -1,13 +1,7 @@
 -- As many operands as parameters.
-use Rattle.std.proofs.Common.{◌≡◌, ◌≢◌, ℕ, ◌+◌, ◌<◌, ◌≤◌, zero, suc, List, [], ◌∷◌, length, replicate, Option, Some, None, Bool, refl, ap, arith, drop, get_or, sym, take, ◌-◌, ◌∙◌}
-use Rattle.std.specs.Prelude.{option_and_then}
-use Rattle.std.proofs.lemmas.List.{length-map, take_all}
-use Rattle.wgsl_standard.specs.Operands.{operand_view, operands_view}
+use Rattle.std.proofs.Common.{◌≡◌, ◌≢◌, ℕ, ◌+◌, ◌<◌, ◌≤◌, zero, suc, List, [], ◌∷◌, length, replicate, Option, Some, None, Bool, refl, ap, arith, drop, get_or, sym, take, ◌-◌, ◌∙◌, option_and_then, take_all}
+use Rattle.wgsl_standard.proofs.Common.{length-map, operand_view, operands_view, Pattern, Operand, Binding, bind, bind_all, bind_same, bind_first}
 use Rattle.wgsl_standard.specs.declared.operand.Operand.{Operand as CodeOperand}
-use Rattle.wgsl_syntax.specs.declared.overload.Pattern.{Pattern}
-use Rattle.wgsl_rules.specs.standard.Choice.{Operand}
-use Rattle.wgsl_standard.specs.declared.binding.Binding.{Binding}
-use Rattle.wgsl_standard.specs.internal.Binding.{bind, bind_all, bind_same, bind_first}
 
 never : (f : Binding → Option Binding) → ((b : Binding) → f b ≡ None) → (r : Option Binding) → option_and_then f r ≡ None
 never f h None = refl

@@ -1,10 +1,8 @@
 -- What textures and pointers say of the letter T: a concrete scalar, once. They convert to themselves alone.
-use Rattle.std.proofs.Common.{◌≡◌, ◌∙◌, ℕ, Option, Some, None, Bool, true, false, cond, refl, sym, subst, true≢false}
-use Rattle.std.specs.Prelude.{IsTrue}
+use Rattle.std.proofs.Common.{◌≡◌, ◌∙◌, ℕ, Option, Some, None, Bool, true, false, cond, refl, sym, subst, true≢false, IsTrue}
 use Rattle.wgsl_syntax.specs.Texel.{channel_type}
 use Rattle.wgsl_syntax.specs.TextureKind.{sampled_scalar}
-use Rattle.wgsl_syntax.specs.declared.scalar.Scalar.{Scalar}
-use Rattle.wgsl_syntax.specs.declared.scalar.Scalar.TheVariants.{AbstractInt, AbstractFloat}
+use Rattle.wgsl_standard.proofs.Common.{Scalar, AbstractInt, AbstractFloat, Resource, WgslType, array_of, scalar, within, atomic, pointer, texture, result_struct, IsValueType, BaseStep, Step, base, inside, int_to_float, Converts, IsAbstract, Above, here, further, value_converts, StandsAlone, converts_alone, Names, may_be, says_letter, resource_group, texture_group, type_group}
 use Rattle.wgsl_syntax.specs.declared.address.AddressSpace.{AddressSpace}
 use Rattle.wgsl_syntax.specs.declared.address.AddressSpace.TheVariants.{Workgroup, Storage}
 use Rattle.wgsl_syntax.specs.declared.address.AccessMode.{AccessMode}
@@ -14,19 +12,8 @@ use Rattle.wgsl_syntax.specs.declared.texture.SampledType.{SampledType}
 use Rattle.wgsl_syntax.specs.declared.texture.SampledType.TheVariants as sampled
 use Rattle.wgsl_syntax.specs.declared.texture.TextureType.{TextureType}
 use Rattle.wgsl_syntax.specs.declared.texture.TextureType.TheVariants as textures
-use Rattle.wgsl_syntax.specs.declared.overload.Resource.{Resource}
 use Rattle.wgsl_syntax.specs.declared.overload.Resource.TheVariants.{Texture1D, Texture2D, Texture2DArray, Texture3D, TextureCube, TextureCubeArray, TextureMultisampled2D, TextureStorage1D, TextureStorage2D, TextureStorage2DArray, TextureStorage3D, AtomicPointer, WorkgroupAtomicPointer, WorkgroupPointer, ArrayPointer}
-use Rattle.wgsl_rules.specs.types.Types.{WgslType, array_of, scalar, within, atomic, pointer, texture}
-use Rattle.wgsl_rules.specs.types.ResultStructs.{result_struct}
-use Rattle.wgsl_rules.specs.conversion.Conversion.{IsValueType, BaseStep, Step, base, inside, int_to_float, Converts}
-use Rattle.wgsl_rules.specs.conversion.Concrete.{IsAbstract}
-use Rattle.wgsl_rules.proofs.conversion.Order.{Above, here, further, value_converts}
-use Rattle.wgsl_rules.proofs.conversion.Equations.{StandsAlone, converts_alone}
-use Rattle.wgsl_rules.specs.standard.Overloads.{Names}
 use Rattle.wgsl_rules.specs.standard.Resources.{suits, texture_letter, is_constructible, atomic_letter, constructible_letter, array_letter, pointer_letter, letter_of}
-use Rattle.wgsl_standard.specs.internal.Binding.{may_be}
-use Rattle.wgsl_standard.specs.internal.FixedResults.{says_letter}
-use Rattle.wgsl_standard.specs.internal.Groups.{resource_group, texture_group, type_group}
 
 -- Types with P may say that the letter T stands for a concrete scalar; they may also say nothing, unless they must say something.
 -- Types outside the set say neither.

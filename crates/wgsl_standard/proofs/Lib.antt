@@ -1,3 +1,4 @@
+pub mod Common
 pub mod Scalars
 pub mod Parts
 pub mod Letters

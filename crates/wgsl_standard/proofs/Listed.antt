@@ -1,22 +1,9 @@
 -- The parameters of an overload, looked at or written one after another.
-use Rattle.std.proofs.lemmas.Option.{get_or_from_slice_get, slice_get-get_or}
-use Rattle.std.proofs.Math.Seq.{drop-cons}
-use Rattle.std.specs.Borrow.{Bor}
-use Rattle.std.specs.Prelude.{min, option_map}
-use Rattle.wgsl_syntax.specs.declared.overload.Overload.{Overload}
-use Rattle.std.proofs.Common.{get_or, length, ◌≡◌, ℕ, zero, suc, ◌+◌, ◌<◌, List, [], ◌∷◌, ◌++◌, Option, Some, None, Bool, true, false, ◌||◌, drop, slice_get, refl, ap, sym, subst, ◌∙◌, arith, append_assoc}
-use Rattle.std.specs.Fmt.{HasWritten, IsPlainFormatter}
-use Rattle.std.specs.List.{flat_map, list_any}
-use Rattle.std.specs.Option.{option_to_list}
-use Rattle.std.proofs.lemmas.List.Concat.{flat_map-append}
+use Rattle.wgsl_standard.proofs.Common.{get_or_from_slice_get, slice_get-get_or, drop-cons, Overload, HasWritten, IsPlainFormatter, list_any, flat_map-append, has_written_append, Pattern, Resource, first_resource, patterns_text, after_comma, pattern_text, first_pattern}
+use Rattle.std.proofs.Common.{get_or, length, ◌≡◌, ℕ, zero, suc, ◌+◌, ◌<◌, List, [], ◌∷◌, ◌++◌, Option, Some, None, Bool, true, false, ◌||◌, drop, slice_get, refl, ap, sym, subst, ◌∙◌, arith, append_assoc, Bor, min, option_map, flat_map, option_to_list}
 use Rattle.std.proofs.lemmas.List.Folds.{list_any-append}
-use Rattle.std.proofs.Output.{has_written_append}
 use Rattle.std.specs.declared.fmt.Formatter.{Formatter}
-use Rattle.wgsl_syntax.specs.declared.overload.Pattern.{Pattern}
 use Rattle.wgsl_syntax.specs.declared.overload.Pattern.TheVariants as patterns
-use Rattle.wgsl_syntax.specs.declared.overload.Resource.{Resource}
-use Rattle.wgsl_rules.specs.standard.Signatures.{first_resource, patterns_text, after_comma, pattern_text}
-use Rattle.wgsl_standard.specs.internal.Binding.{first_pattern}
 use Rattle.wgsl_standard.specs.internal.Listed.{AreListed}
 
 pub first_at : (ps : List Pattern) → slice_get ps 0 ≡ first_pattern ps

@@ -1,22 +1,11 @@
 -- The overloads of what is called are few and unambiguous.
-use Rattle.std.proofs.Common.{◌≡◌, ◌<◌, ◌&&◌, ℕ, List, [], ◌∷◌, Option, Some, None, length, nat_lt, refl, sym, subst}
-use Rattle.std.specs.Prelude.{IfSome, IsTrue, option_map, bytes_eq, Bool, true, false, if◌then◌else◌}
-use Rattle.std.specs.List.{list_all}
-use Rattle.std.proofs.lemmas.Bool.{and_parts, ltb-true}
-use Rattle.std.specs.Borrow.{Bor}
-use Rattle.wgsl_syntax.specs.declared.operator.UnaryOperator.{UnaryOperator}
+use Rattle.std.proofs.Common.{◌≡◌, ◌<◌, ◌&&◌, ℕ, List, [], ◌∷◌, Option, Some, None, length, nat_lt, refl, sym, subst, IfSome, IsTrue, option_map, bytes_eq, Bool, true, false, if◌then◌else◌, ltb-true, Bor}
+use Rattle.wgsl_standard.proofs.Common.{list_all, and_parts, UnaryOperator, BinaryOperator, Overload, function_table, template_function_table, overloads_named, constructor_table, template_constructor_table, IsUnambiguous, or_none, Callee}
 use Rattle.wgsl_syntax.specs.declared.operator.UnaryOperator.TheVariants as unary
-use Rattle.wgsl_syntax.specs.declared.operator.BinaryOperator.{BinaryOperator}
 use Rattle.wgsl_syntax.specs.declared.operator.BinaryOperator.TheVariants as binary
-use Rattle.wgsl_syntax.specs.declared.overload.Overload.{Overload}
 use Rattle.wgsl_rules.specs.standard.Operators.{binary_overloads, unary_overloads}
-use Rattle.wgsl_rules.specs.standard.Names.{function_table, template_function_table, overloads_named}
-use Rattle.wgsl_rules.specs.standard.ConstructorNames.{constructor_table, template_constructor_table}
-use Rattle.wgsl_rules.specs.standard.Tables.{IsUnambiguous}
 use Rattle.wgsl_standard.specs.internal.Ambiguity.{is_unambiguous}
 use Rattle.wgsl_standard.specs.Callees.{WgslCallee, a_binary, a_constructor, a_function, a_unary, callee_view, overloads_listed, overloads_of}
-use Rattle.wgsl_standard.specs.Explained.{or_none}
-use Rattle.wgsl_standard.specs.declared.callee.Callee.{Callee}
 use Rattle.wgsl_standard.proofs.Unambiguous.{unambiguous_is}
 
 pub record IsTable (os : List Overload) : Type 0 where

@@ -1,13 +1,6 @@
 -- No function and no constructor has the name of an operator, and no constructor that of a function.
-use Rattle.std.proofs.Common.{◌≡◌, ◌&&◌, ℕ, Bool, true, false, List, [], ◌∷◌, Some, refl, subst, sym}
-use Rattle.std.specs.Prelude.{IsTrue, bytes_eq, if◌then◌else◌, slice_get}
-use Rattle.std.proofs.lemmas.Slice.Eq.{bytes_eq-Decides}
-use Rattle.wgsl_syntax.specs.declared.overload.Overload.{Overload}
-use Rattle.wgsl_rules.specs.standard.Names.{function_table, template_function_table, overloads_named}
-use Rattle.wgsl_rules.specs.standard.ConstructorNames.{constructor_table, template_constructor_table}
-use Rattle.wgsl_standard.specs.Explained.{or_none}
-use Rattle.wgsl_standard.specs.Lines.{binary_operators_named, unary_operators_named}
-use Rattle.std.proofs.lemmas.Bool.{and_parts}
+use Rattle.std.proofs.Common.{◌≡◌, ◌&&◌, ℕ, Bool, true, false, List, [], ◌∷◌, Some, refl, subst, sym, IsTrue, bytes_eq, if◌then◌else◌, slice_get}
+use Rattle.wgsl_standard.proofs.Common.{bytes_eq-Decides, Overload, function_table, template_function_table, overloads_named, constructor_table, template_constructor_table, or_none, binary_operators_named, unary_operators_named, and_parts}
 
 abbrev is_empty : {A : Type 0} → List A → Bool
 is_empty [] = true

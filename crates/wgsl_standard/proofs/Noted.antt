@@ -1,13 +1,6 @@
 -- A note among others.
-use Rattle.std.proofs.Common.{◌≡◌, ◌++◌, ◌+◌, ◌∙◌, ℕ, Bool, List, [], ◌∷◌, Some, ap, cond, drop, length, map, refl, subst, sym, take}
-use Rattle.std.specs.Prelude.{All}
-use Rattle.std.specs.List.{insert, prefix_len}
-use Rattle.std.proofs.lemmas.List.{drop-map, map-append, take-map}
-use Rattle.std.proofs.lemmas.List.Elements.{All-append, All-cons, All-drop, All-take}
-use Rattle.wgsl_syntax.specs.declared.overload.Overload.{Overload}
-use Rattle.wgsl_rules.specs.standard.Choice.{Operand}
-use Rattle.wgsl_standard.specs.Explained.{AreNotes, note_view, refused, with_note}
-use Rattle.wgsl_standard.specs.Mismatches.{IsMismatch, is_nearer}
+use Rattle.std.proofs.Common.{◌≡◌, ◌++◌, ◌+◌, ◌∙◌, ℕ, Bool, List, [], ◌∷◌, Some, ap, cond, drop, length, map, refl, subst, sym, take, All, insert}
+use Rattle.wgsl_standard.proofs.Common.{prefix_len, drop-map, map-append, take-map, All-append, All-cons, All-drop, All-take, Overload, Operand, AreNotes, note_view, refused, with_note, IsMismatch, is_nearer}
 use Rattle.wgsl_standard.specs.declared.explanation.Note.{Note}
 use Rattle.wgsl_standard.specs.declared.refusal.Mismatch.{Mismatch}
 

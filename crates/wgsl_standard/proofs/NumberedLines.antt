@@ -1,20 +1,11 @@
 -- The line at the number of an overload is its text.
-use Rattle.std.proofs.Common.{◌≡◌, ◌∙◌, ◌+◌, ◌++◌, ℕ, zero, suc, Bool, true, false, List, [], ◌∷◌, Some, append_assoc, ap, arith, cond, length, refl, sym, take}
-use Rattle.std.specs.Prelude.{IsTrue, slice_get}
-use Rattle.std.specs.List.{flat_map, list_any}
-use Rattle.std.proofs.lemmas.List.{append-nil}
+use Rattle.std.proofs.Common.{◌≡◌, ◌∙◌, ◌+◌, ◌++◌, ℕ, zero, suc, Bool, true, false, List, [], ◌∷◌, Some, append_assoc, ap, arith, cond, length, refl, sym, take, IsTrue, slice_get, flat_map, append-nil}
+use Rattle.wgsl_standard.proofs.Common.{list_any, BinaryOperator, UnaryOperator, Overload, patterns_of, is_scalar_or_vector, overload_lines, signature_lines, signature_text, or_none, callee_text, first_line_of, lines_listed, name_of, texts_listed}
 use Rattle.wgsl_syntax.specs.Operator.{binary_text, unary_text}
-use Rattle.wgsl_syntax.specs.declared.operator.BinaryOperator.{BinaryOperator}
 use Rattle.wgsl_syntax.specs.declared.operator.BinaryOperator.TheVariants as b
-use Rattle.wgsl_syntax.specs.declared.operator.UnaryOperator.{UnaryOperator}
 use Rattle.wgsl_syntax.specs.declared.operator.UnaryOperator.TheVariants as u
-use Rattle.wgsl_syntax.specs.declared.overload.Overload.{Overload}
-use Rattle.wgsl_rules.specs.standard.Overloads.{patterns_of}
-use Rattle.wgsl_rules.specs.standard.Signatures.{is_scalar_or_vector, overload_lines, signature_lines, signature_text}
 use Rattle.wgsl_standard.specs.Callees.{WgslCallee, a_binary, a_constructor, a_function, a_unary, callee_view, overloads_listed}
-use Rattle.wgsl_standard.specs.Explained.{or_none}
 use Rattle.wgsl_standard.specs.Lines.{StandsAtIndex, binary_operators_named, callees_before, line_of_overload, lines_before, lines_named, unary_operators_named}
-use Rattle.wgsl_standard.specs.Texts.{callee_text, first_line_of, lines_listed, name_of, texts_listed}
 use Rattle.wgsl_standard.specs.declared.signature.Signature.{Signature}
 use Rattle.wgsl_standard.specs.internal.FirstLines.{HasFirstLine}
 use Rattle.wgsl_standard.proofs.NamesApart.{constructor_apart, function_apart, template_apart, template_function_apart, IsNew, IsNoOperator}

@@ -1,9 +1,7 @@
 -- At most one candidate is preferred to all others.
 use Rattle.std.proofs.Common.{◌≡◌, ℕ, List, Option, sym, inl, inr}
-use Rattle.wgsl_rules.specs.types.Types.{WgslType}
+use Rattle.wgsl_standard.proofs.Common.{WgslType, Overload, Operand, IsPreferred}
 use Rattle.wgsl_rules.proofs.operators.Choices.{contrary}
-use Rattle.wgsl_syntax.specs.declared.overload.Overload.{Overload}
-use Rattle.wgsl_rules.specs.standard.Choice.{Operand, IsPreferred}
 
 pub chosen_once : (os : List Overload) (xs : List Operand) (k l : ℕ) (us vs : List WgslType) (r s : Option WgslType) →
     IsPreferred os xs k us r → IsPreferred os xs l vs s → (k ≡ l) × (us ≡ vs) × (r ≡ s)

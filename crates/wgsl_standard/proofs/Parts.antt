@@ -1,16 +1,8 @@
 -- Operands of other types convert to no parameter, and the parts of a type are its own.
-use Rattle.std.proofs.Common.{◌≡◌, ℕ, Option, Some, None, refl, sym, ◌∙◌, ap}
-use Rattle.std.specs.Prelude.{option_map}
-use Rattle.wgsl_syntax.specs.declared.scalar.Scalar.{Scalar}
-use Rattle.wgsl_rules.specs.types.Types.{WgslType, vec_of, mat_of, scalar, within}
-use Rattle.wgsl_rules.specs.conversion.Conversion.{Converts, IsValueType}
+use Rattle.std.proofs.Common.{◌≡◌, ℕ, Option, Some, None, refl, sym, ◌∙◌, ap, option_map}
+use Rattle.wgsl_standard.proofs.Common.{Scalar, WgslType, vec_of, mat_of, scalar, within, Converts, IsValueType, above_to_within, value_converts, Dimensions, Single, Vector, Matrix, type_with, parts_of}
 use Rattle.wgsl_core.specs.Forms.{scalar_of}
-use Rattle.wgsl_rules.proofs.conversion.Order.{above_to_within, value_converts}
-use Rattle.wgsl_syntax.specs.declared.overload.Dimensions.{Dimensions}
-use Rattle.wgsl_syntax.specs.declared.overload.Dimensions.TheVariants.{Single, Vector, Matrix}
-use Rattle.wgsl_rules.specs.standard.Overloads.{type_with}
 use Rattle.wgsl_rules.proofs.operators.FamilyKinds.{any_scalar, above_admits, as_scalar}
-use Rattle.wgsl_standard.specs.internal.Parts.{parts_of}
 
 pub parts_once : (o : Dimensions) (s : Scalar) → parts_of (type_with o s) ≡ Some (o, s)
 parts_once Single s = refl

@@ -1,27 +1,9 @@
 -- Ranks of operands at the parameters of a substitution: an operand fits exactly if it converts, and ranks compare as depths do.
-use Rattle.std.proofs.Common.{◌≡◌, ℕ, ◌+◌, ◌⊎◌, List, [], ◌∷◌, map, Some, Bool, true, false, cond, refl, sym, ◌∙◌, ap, subst, inl, inr, arith, true≢false}
-use Rattle.std.specs.Prelude.{IsTrue}
-use Rattle.wgsl_syntax.specs.declared.scalar.Scalar.{Scalar}
-use Rattle.wgsl_syntax.specs.declared.scalar.Scalar.TheVariants.{AbstractInt, AbstractFloat}
-use Rattle.wgsl_rules.specs.types.Types.{WgslType, vec_of, mat_of, scalar, within, texture, sampler}
-use Rattle.wgsl_rules.specs.conversion.Conversion.{Converts, IsValueType}
-use Rattle.wgsl_rules.specs.conversion.Concrete.{IsAbstract}
-use Rattle.wgsl_rules.specs.operators.Choice.{HasRanks, IsNowhereMore, IsSomewhereLess}
-use Rattle.wgsl_rules.specs.internal.Nodes.{scalar_depth}
-use Rattle.wgsl_rules.proofs.conversion.Steps.{depth}
-use Rattle.wgsl_rules.proofs.conversion.Order.{value_converts}
-use Rattle.wgsl_rules.proofs.conversion.Equations.{converts_from_scalar, converts_from_within, converts_within, converts_inside}
-use Rattle.wgsl_syntax.specs.declared.overload.Pattern.{Pattern}
+use Rattle.std.proofs.Common.{◌≡◌, ℕ, ◌+◌, ◌⊎◌, List, [], ◌∷◌, map, Some, Bool, true, false, cond, refl, sym, ◌∙◌, ap, subst, inl, inr, arith, true≢false, IsTrue}
+use Rattle.wgsl_standard.proofs.Common.{Scalar, AbstractInt, AbstractFloat, WgslType, vec_of, mat_of, scalar, within, texture, sampler, Converts, IsValueType, IsAbstract, HasRanks, IsNowhereMore, IsSomewhereLess, scalar_depth, depth, value_converts, converts_from_scalar, converts_from_within, converts_within, converts_inside, Pattern, Dimensions, Single, Vector, Matrix, Substitution, type_with, dimensions_in, component_in, Names, IsParameter, AreParameters, letter_of, parts_of, may_be, must_be_concrete}
 use Rattle.wgsl_syntax.specs.declared.overload.Pattern.TheVariants as patterns
-use Rattle.wgsl_syntax.specs.declared.overload.Dimensions.{Dimensions}
-use Rattle.wgsl_syntax.specs.declared.overload.Dimensions.TheVariants.{Single, Vector, Matrix}
 use Rattle.wgsl_rules.specs.standard.Choice.{Operand, types_of, AreValues, AreConstant, AreConcrete, parameter_for, parameters_for}
-use Rattle.wgsl_syntax.specs.declared.overload.Substitution.{Substitution}
-use Rattle.wgsl_rules.specs.standard.Overloads.{type_with, dimensions_in, component_in, Names, IsParameter, AreParameters}
-use Rattle.wgsl_rules.specs.standard.Resources.{letter_of}
 use Rattle.wgsl_standard.proofs.Letters.{only_itself, to_itself, member_alone, member_concrete, member_value}
-use Rattle.wgsl_standard.specs.internal.Parts.{parts_of}
-use Rattle.wgsl_standard.specs.internal.Binding.{may_be, must_be_concrete}
 use Rattle.wgsl_standard.proofs.Parts.{parts_once, parts_again, parts_taken}
 use Rattle.wgsl_standard.proofs.Scalars.{Reaches, reaches_rank, rank_reaches, reaches_depth}
 use Rattle.wgsl_standard.proofs.Boxes.{Fit, AllFit}

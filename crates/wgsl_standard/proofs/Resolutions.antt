@@ -1,22 +1,10 @@
 -- What a choice resolves to, by the line of its overload.
-use Rattle.std.proofs.Common.{◌≡◌, ◌∙◌, ◌+◌, ◌&&◌, ◌||◌, ℕ, Bool, true, false, List, [], ◌∷◌, Option, Some, None, ap, cond, get_or, length, refl, subst, sym, take}
-use Rattle.std.specs.Prelude.{IsTrue, is_some, slice_get}
-use Rattle.std.specs.List.{list_any}
-use Rattle.std.proofs.lemmas.Option.{get_or_from_slice_get}
-use Rattle.wgsl_syntax.specs.declared.overload.Substitution.{Substitution}
-use Rattle.wgsl_syntax.specs.declared.overload.Overload.{Overload}
-use Rattle.wgsl_syntax.specs.declared.overload.Pattern.{Pattern}
+use Rattle.std.proofs.Common.{◌≡◌, ◌∙◌, ◌+◌, ◌&&◌, ◌||◌, ℕ, Bool, true, false, List, [], ◌∷◌, Option, Some, None, ap, cond, get_or, length, refl, subst, sym, take, IsTrue, is_some, slice_get}
+use Rattle.wgsl_standard.proofs.Common.{list_any, get_or_from_slice_get, Substitution, Overload, Pattern, WgslType, Operand, IsChosen, IsPreferred, parameter_for, parameters_for, result_for, component_in, one_or_vector, patterns_of, type_with, AreParameters, is_scalar_or_vector, signature_text, WgslCallee, overloads_listed, or_none, is_vector, name_of}
 use Rattle.wgsl_syntax.specs.declared.overload.Pattern.TheVariants as patterns
 use Rattle.wgsl_syntax.specs.declared.overload.Shape.TheVariants as shapes
-use Rattle.wgsl_rules.specs.types.Types.{WgslType}
-use Rattle.wgsl_rules.specs.standard.Choice.{Operand, IsChosen, IsPreferred, parameter_for, parameters_for, result_for}
-use Rattle.wgsl_rules.specs.standard.Overloads.{component_in, one_or_vector, patterns_of, type_with, AreParameters}
-use Rattle.wgsl_rules.specs.standard.Signatures.{is_scalar_or_vector, signature_text}
-use Rattle.wgsl_standard.specs.Callees.{WgslCallee, overloads_listed}
-use Rattle.wgsl_standard.specs.Explained.{or_none}
 use Rattle.wgsl_standard.specs.Lines.{are_vectors, is_of_vectors, line_of_candidate, line_of_overload, lines_before, lines_named}
 use Rattle.wgsl_standard.specs.Resolved.{IndexNamesLine, IsNamedResolution, with_line}
-use Rattle.wgsl_standard.specs.Texts.{is_vector, name_of}
 use Rattle.wgsl_standard.proofs.NumberedLines.{text_there}
 
 -- Parameters that may be scalars or vectors are vectors exactly if their letter stands for a number of components.

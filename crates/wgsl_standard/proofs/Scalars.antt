@@ -1,18 +1,6 @@
 -- Conversion of scalars, and the least of a kind.
-use Rattle.std.proofs.Common.{◌≡◌, ℕ, ◌+◌, ◌<◌, ◌⊎◌, ◌↔◌, List, [], ◌∷◌, Option, Some, None, Bool, true, false, cond, refl, sym, ◌∙◌, ap, subst, inl, inr, arith, true≢false}
-use Rattle.std.specs.Prelude.{IsTrue, is_some, ◌&&◌}
-use Rattle.std.specs.List.{list_any}
-use Rattle.std.proofs.lemmas.Bool.{and_parts, or_cases}
-use Rattle.wgsl_syntax.specs.declared.scalar.Scalar.{Scalar}
-use Rattle.wgsl_syntax.specs.declared.scalar.Scalar.TheVariants.{Bool as BoolScalar, AbstractInt, AbstractFloat, I32, U32, F32, F16, I64, U64}
-use Rattle.wgsl_rules.specs.types.Types.{scalar}
-use Rattle.wgsl_rules.specs.conversion.Conversion.{Converts}
-use Rattle.wgsl_rules.specs.internal.Nodes.{scalar_depth}
-use Rattle.wgsl_rules.proofs.conversion.Order.{Above, above_antisym, above_trans, above_chain, above_converts, value_converts}
-use Rattle.wgsl_rules.proofs.conversion.Equations.{scalar_rank, converts_scalar}
-use Rattle.wgsl_syntax.specs.declared.overload.Kind.{Kind}
-use Rattle.wgsl_rules.specs.standard.LetterKinds.{is_of_kind}
-use Rattle.wgsl_standard.specs.internal.Binding.{converts, may_be, join, targets, first_of_kind, first_target, pick}
+use Rattle.std.proofs.Common.{◌≡◌, ℕ, ◌+◌, ◌<◌, ◌⊎◌, ◌↔◌, List, [], ◌∷◌, Option, Some, None, Bool, true, false, cond, refl, sym, ◌∙◌, ap, subst, inl, inr, arith, true≢false, IsTrue, is_some, ◌&&◌}
+use Rattle.wgsl_standard.proofs.Common.{list_any, and_parts, or_cases, Scalar, Bool as BoolScalar, AbstractInt, AbstractFloat, I32, U32, F32, F16, I64, U64, scalar, Converts, scalar_depth, Above, above_antisym, above_trans, above_chain, above_converts, value_converts, scalar_rank, converts_scalar, Kind, is_of_kind, converts, may_be, join, targets, first_of_kind, first_target, pick}
 
 -- as in the table of ranks
 pub by_rank : (a b : Scalar) → converts a b ≡ is_some (scalar_rank a b)

@@ -1,14 +1,10 @@
 -- A perfect hash finds the row of a name.
-use Rattle.std.proofs.Common.{ℕ, suc, zero, ◌≡◌, ◌≢◌, ◌<◌, List, [], ◌∷◌, map, length, get_or, Some, None, Bool, true, false, refl, sym, ap, ◌∙◌, subst, arith}
-use Rattle.std.specs.Prelude.{bytes_eq, if◌then◌else◌}
+use Rattle.std.proofs.Common.{ℕ, suc, zero, ◌≡◌, ◌≢◌, ◌<◌, List, [], ◌∷◌, map, length, get_or, Some, None, Bool, true, false, refl, sym, ap, ◌∙◌, subst, arith, bytes_eq, if◌then◌else◌}
 use Rattle.std.proofs.lemmas.List as lists
-use Rattle.std.proofs.lemmas.List.{length-map}
-use Rattle.std.proofs.lemmas.Slice.Eq.{bytes_eq-Decides}
+use Rattle.wgsl_standard.proofs.Common.{length-map, bytes_eq-Decides, IsNameAt, names_of, value_named}
 use Rattle.wgsl_syntax.specs.declared.hash.Places.{Places}
 use Rattle.wgsl_syntax.specs.Hash.{index_of, FindsAll}
-use Rattle.wgsl_rules.specs.calls.Names.{IsNameAt}
 use Rattle.wgsl_rules.proofs.calls.FoundNames.{its_index}
-use Rattle.wgsl_rules.specs.standard.Names.{names_of, value_named}
 
 not_here : (b : Bool) (x n : List ℕ) → bytes_eq x n ≡ b → x ≢ n → b ≡ false
 not_here true x n e d = absurd (d ((bytes_eq-Decides x n).0 e))

@@ -1,10 +1,7 @@
 -- The names of the tables are sorted and distinct.
 use Rattle.std.proofs.Common.{◌≡◌, ℕ, List, refl, sym, subst}
-use Rattle.wgsl_syntax.specs.declared.overload.Overload.{Overload}
-use Rattle.wgsl_rules.specs.calls.Names.{IsRising}
+use Rattle.wgsl_standard.proofs.Common.{Overload, IsRising, function_table, names_of, constructor_table, template_constructor_table}
 use Rattle.wgsl_rules.proofs.calls.SortedNames.{rises_far}
-use Rattle.wgsl_rules.specs.standard.Names.{function_table, names_of}
-use Rattle.wgsl_rules.specs.standard.ConstructorNames.{constructor_table, template_constructor_table}
 
 pub functions_sorted : IsRising (names_of function_table)
 unfolding function_table

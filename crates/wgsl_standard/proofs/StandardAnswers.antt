@@ -1,15 +1,7 @@
 -- The answer of a call, from what is chosen.
-use Rattle.std.proofs.Common.{◌≡◌, ℕ, List, Option, Some, None, refl, sym, ◌∙◌, ap, subst}
-use Rattle.std.specs.Prelude.{slice_get, slice_index_or}
-use Rattle.std.proofs.lemmas.Option.{get_or_from_slice_get}
-use Rattle.wgsl_syntax.specs.declared.overload.Overload.{Overload}
-use Rattle.wgsl_syntax.specs.declared.overload.Substitution.{Substitution}
-use Rattle.wgsl_rules.specs.types.Types.{WgslType}
-use Rattle.wgsl_rules.specs.standard.Overloads.{patterns_of}
-use Rattle.wgsl_rules.specs.standard.Choice.{Operand, IsPreferred, NoneTakes, parameters_for, result_for, IsChosen}
+use Rattle.std.proofs.Common.{◌≡◌, ℕ, List, Option, Some, None, refl, sym, ◌∙◌, ap, subst, slice_get, slice_index_or}
+use Rattle.wgsl_standard.proofs.Common.{get_or_from_slice_get, Overload, Substitution, WgslType, patterns_of, Operand, IsPreferred, NoneTakes, parameters_for, result_for, IsChosen, IsUnambiguous, first_of, must_be_concrete}
 use Rattle.wgsl_rules.specs.standard.Answers.{IsStandardAnswer}
-use Rattle.wgsl_rules.specs.standard.Tables.{IsUnambiguous}
-use Rattle.wgsl_standard.specs.internal.Binding.{first_of, must_be_concrete}
 use Rattle.wgsl_standard.proofs.Choices.{found}
 use Rattle.wgsl_standard.proofs.OneChoice.{chosen_once}
 

@@ -1,33 +1,12 @@
 -- What passes the test of tables is a table.
-use Rattle.std.proofs.Common.{◌≡◌, ℕ, ◌<◌, ◌≤◌, ◌==◌, ◌&&◌, ◌||◌, List, [], ◌∷◌, map, Option, Some, None, Bool, true, false, not, refl, sym, ◌∙◌, subst, inl, inr, ap, arith, le_refl, true≢false}
-use Rattle.std.specs.Prelude.{IsTrue}
-use Rattle.std.specs.List.{list_all}
-use Rattle.std.proofs.lemmas.Bool.{and_from, and_parts, both_ways, eqb-false, leb-true, ltb-true, not-true, or_cases}
-use Rattle.wgsl_syntax.specs.declared.scalar.Scalar.{Scalar}
-use Rattle.wgsl_syntax.specs.declared.scalar.Scalar.TheVariants.{Bool as BoolScalar}
+use Rattle.std.proofs.Common.{◌≡◌, ℕ, ◌<◌, ◌≤◌, ◌==◌, ◌&&◌, ◌||◌, List, [], ◌∷◌, map, Option, Some, None, Bool, true, false, not, refl, sym, ◌∙◌, subst, inl, inr, ap, arith, le_refl, true≢false, IsTrue, leb-true, ltb-true}
+use Rattle.wgsl_standard.proofs.Common.{list_all, and_from, and_parts, both_ways, eqb-false, not-true, or_cases, Scalar, Bool as BoolScalar, IsNowhereMore, IsSomewhereLess, scalar_depth, depth, Component, Count, Shape, Pattern, Overload, Dimensions, Single, Substitution, Operand, parameter_for, parameters_for, letter_of, IsPreferredTo, IsPreferredToAll, AreInOrder, IsUnambiguous, converts, must_be_concrete, group_of, type_group, has_one_result}
 use Rattle.wgsl_syntax.specs.Scalar.{scalars}
-use Rattle.wgsl_rules.specs.operators.Choice.{IsNowhereMore, IsSomewhereLess}
-use Rattle.wgsl_rules.specs.internal.Nodes.{scalar_depth}
-use Rattle.wgsl_rules.proofs.conversion.Steps.{depth}
-use Rattle.wgsl_syntax.specs.declared.overload.Component.{Component}
 use Rattle.wgsl_syntax.specs.declared.overload.Component.TheVariants.{T, U, V, W, The}
-use Rattle.wgsl_syntax.specs.declared.overload.Count.{Count}
 use Rattle.wgsl_syntax.specs.declared.overload.Count.TheVariants.{Exactly}
-use Rattle.wgsl_syntax.specs.declared.overload.Shape.{Shape}
 use Rattle.wgsl_syntax.specs.declared.overload.Shape.TheVariants as shapes
-use Rattle.wgsl_syntax.specs.declared.overload.Pattern.{Pattern}
 use Rattle.wgsl_syntax.specs.declared.overload.Pattern.TheVariants as patterns
-use Rattle.wgsl_syntax.specs.declared.overload.Overload.{Overload}
-use Rattle.wgsl_syntax.specs.declared.overload.Dimensions.{Dimensions}
-use Rattle.wgsl_syntax.specs.declared.overload.Dimensions.TheVariants.{Single}
-use Rattle.wgsl_syntax.specs.declared.overload.Substitution.{Substitution}
-use Rattle.wgsl_rules.specs.standard.Choice.{Operand, parameter_for, parameters_for}
 use Rattle.wgsl_rules.specs.standard.Overloads.{count_in, one_or_vector, dimensions_in, component_in, patterns_of, type_with, IsSubstitution}
-use Rattle.wgsl_rules.specs.standard.Resources.{letter_of}
-use Rattle.wgsl_rules.specs.standard.Tables.{IsPreferredTo, IsPreferredToAll, AreInOrder, IsUnambiguous}
-use Rattle.wgsl_standard.specs.internal.Binding.{converts, must_be_concrete}
-use Rattle.wgsl_standard.specs.internal.Groups.{group_of, type_group}
-use Rattle.wgsl_standard.specs.internal.FixedResults.{has_one_result}
 use Rattle.wgsl_standard.specs.internal.Ambiguity.{may_stand, all_taken, never, no_deeper, less_deep, counts_apart, shapes_apart, patterns_apart, are_apart, place_no_deeper, all_no_deeper, place_less_deep, some_less_deep, as_known, is_preferred_where, is_preferred_anywhere, differ_at, unless_they_differ, is_preferred_to, is_unambiguous}
 use Rattle.wgsl_standard.proofs.Scalars.{Member, find, has}
 use Rattle.wgsl_standard.proofs.Boxes.{width_matrix, same_operand, Fit, AllFit}

@@ -1,16 +1,7 @@
 -- A call is answered as the choice says if its row returns what a family gives, or if no candidate takes the arguments.
 use Rattle.std.proofs.Common.{◌≡◌, ℕ, ◌⊎◌, List, [], ◌∷◌, Option, None, Some, Result, Err, inl, inr, All, refl, sym, subst, option_map}
-use Rattle.wgsl_rules.specs.types.Types.{WgslType}
-use Rattle.wgsl_rules.specs.conversion.Conversion.{IsValueType, ConvertsTo}
-use Rattle.wgsl_rules.specs.conversion.Common.{IsCommon, IsCommonWith, IsLeftCommon, of_last_member}
+use Rattle.wgsl_rules.proofs.Common.{WgslType, IsValueType, ConvertsTo, IsCommon, IsCommonWith, IsLeftCommon, of_last_member, Name, IsCandidate, HasRanks, Takes as TakenBy, Signature, Refusal, signature, Row, return_type_of, Fits, IsReturnType, IsCommonOf, given, IsAnswerOf, name_of, RefusedThoughTaken, IsChosenCall}
 use Rattle.wgsl_rules.proofs.conversion.Folds.{left_of_two}
-use Rattle.wgsl_rules.specs.operators.Candidates.{Name, IsCandidate}
-use Rattle.wgsl_rules.specs.operators.Choice.{HasRanks, Takes as TakenBy}
-use Rattle.wgsl_rules.specs.types.Signatures.{Signature}
-use Rattle.wgsl_rules.specs.errors.Refusals.{Refusal, signature}
-use Rattle.wgsl_syntax.specs.declared.call.Row.{Row}
-use Rattle.wgsl_rules.specs.calls.Rows.{return_type_of, Fits, IsReturnType, IsCommonOf, given}
-use Rattle.wgsl_rules.specs.calls.Answers.{IsAnswerOf, name_of, RefusedThoughTaken, IsChosenCall}
 use Rattle.wgsl_rules.proofs.conversion.Order.{Above, value_converts}
 use Rattle.wgsl_rules.proofs.conversion.Commons.{common_join, value_above, receives_head, receives_tail, values_head, values_tail, left_common_least}
 use Rattle.wgsl_rules.proofs.operators.Families.{fill_all, IsPut}

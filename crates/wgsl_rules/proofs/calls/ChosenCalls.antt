@@ -1,17 +1,11 @@
 -- The functions with candidates: for value types, their rows in the table return the least candidate's result, and
 -- refuse a call that candidates take only if it is one of `RefusedThoughTaken`.
 use Rattle.std.proofs.Common.{◌≡◌, List, [], ◌∷◌, All, refl, sym, subst}
-use Rattle.wgsl_rules.specs.types.Types.{WgslType}
-use Rattle.wgsl_rules.specs.conversion.Conversion.{IsValueType}
+use Rattle.wgsl_rules.proofs.Common.{WgslType, IsValueType, IsCallName, Signature, Row, call_table, rows_named, IsAnswerOf, IsCallAnswer, name_of, IsChosenCall, IsLeastCallAnswer}
 use Rattle.wgsl_rules.specs.operators.Candidates.{Name, operator, min, max, atan2, step, pow, cross, reflect, distance, dot, clamp, fma, smoothstep, face_forward, mix, refract, select, insert_bits}
-use Rattle.wgsl_rules.specs.Laws.{IsCallName}
-use Rattle.wgsl_rules.specs.types.Signatures.{Signature}
 use Rattle.wgsl_syntax.specs.declared.call.ScalarKind.TheVariants.{Number, Float}
 use Rattle.wgsl_syntax.specs.declared.call.Shape.TheVariants.{Any, VectorOf, ScalarOrVectorOf}
 use Rattle.wgsl_syntax.specs.declared.call.Source.TheVariants.{Common, InnerOfCommon}
-use Rattle.wgsl_syntax.specs.declared.call.Row.{Row}
-use Rattle.wgsl_rules.specs.calls.Table.{call_table, rows_named}
-use Rattle.wgsl_rules.specs.calls.Answers.{IsAnswerOf, IsCallAnswer, name_of, IsChosenCall, IsLeastCallAnswer}
 use Rattle.wgsl_rules.proofs.calls.Answered.{Answer, its}
 use Rattle.wgsl_rules.proofs.calls.ShapedKinds.{of_numbers, of_any, of_number_vectors, of_floats, of_float_vectors}
 use Rattle.wgsl_rules.proofs.calls.ChosenFamilies.{pairs, commons, inners, triples, pair_row, triple_row}

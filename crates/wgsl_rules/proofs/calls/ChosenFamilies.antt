@@ -1,21 +1,11 @@
 -- Functions of two or three arguments whose types are alike: their row returns the least candidate's result.
 use Rattle.std.proofs.Common.{◌≡◌, ◌⊎◌, List, [], ◌∷◌, Option, None, Some, inl, inr, All, refl, sym, ap, subst, ◌∙◌, option_map}
-use Rattle.wgsl_rules.specs.types.Types.{WgslType}
-use Rattle.wgsl_rules.specs.conversion.Conversion.{IsValueType}
-use Rattle.wgsl_rules.specs.conversion.Common.{IsCommon, IsLeftCommon}
-use Rattle.wgsl_rules.specs.types.Inner.{inner_of}
-use Rattle.wgsl_rules.specs.operators.Candidates.{Name, IsOfThree, IsCandidate}
-use Rattle.wgsl_rules.specs.operators.Choice.{Takes as TakenBy}
-use Rattle.wgsl_syntax.specs.declared.call.Shape.{Shape}
+use Rattle.wgsl_rules.proofs.Common.{WgslType, IsValueType, IsCommon, IsLeftCommon, inner_of, Name, IsOfThree, IsCandidate, Takes as TakenBy, Shape, Source, Row, Fits, IsSource, IsReturnType, given, IsAnswerOf, RefusedThoughTaken, IsChosenCall}
 use Rattle.wgsl_syntax.specs.declared.call.Shape.TheVariants.{Any}
-use Rattle.wgsl_syntax.specs.declared.call.Source.{Source}
 use Rattle.wgsl_syntax.specs.declared.call.Source.TheVariants.{Common, InnerOfCommon, CommonOfThree}
 use Rattle.wgsl_syntax.specs.declared.call.ReturnType.TheVariants.{Of}
 use Rattle.wgsl_syntax.specs.declared.call.Arguments.TheVariants.{Two, Three}
-use Rattle.wgsl_syntax.specs.declared.call.Row.{Row}
 use Rattle.wgsl_syntax.specs.declared.call.Row.TheVariants.{Takes}
-use Rattle.wgsl_rules.specs.calls.Rows.{Fits, IsSource, IsReturnType, given}
-use Rattle.wgsl_rules.specs.calls.Answers.{IsAnswerOf, RefusedThoughTaken, IsChosenCall}
 use Rattle.wgsl_rules.proofs.conversion.Order.{Above}
 use Rattle.wgsl_rules.proofs.conversion.Commons.{values_head, values_tail}
 use Rattle.wgsl_rules.proofs.operators.FamilyKinds.{Kind, Admits, outers}

@@ -1,22 +1,12 @@
 -- `insertBits`: its row returns the least candidate's result.
 use Rattle.std.proofs.Common.{◌≡◌, ◌⊎◌, List, [], ◌∷◌, inl, inr, All, refl, sym, subst}
-use Rattle.wgsl_syntax.specs.declared.scalar.Scalar.{Scalar}
-use Rattle.wgsl_syntax.specs.declared.scalar.Scalar.TheVariants.{Bool, AbstractInt, AbstractFloat, I32, U32, F32, F16, I64, U64, F64}
-use Rattle.wgsl_rules.specs.types.Types.{vec_of, WgslType, scalar, within}
-use Rattle.wgsl_rules.specs.types.Kinds.{IsInteger, IsFloat, IsNumeric, IsFloatOrVector}
-use Rattle.wgsl_rules.specs.conversion.Conversion.{IsValueType}
-use Rattle.wgsl_rules.specs.operators.Candidates.{insert_bits}
-use Rattle.wgsl_rules.specs.operators.Choice.{Takes as TakenBy}
+use Rattle.wgsl_rules.proofs.Common.{Scalar, Bool, AbstractInt, AbstractFloat, I32, U32, F32, F16, I64, U64, F64, vec_of, WgslType, scalar, within, IsInteger, IsFloat, IsNumeric, IsFloatOrVector, IsValueType, insert_bits, Takes as TakenBy, Row, IsScalarOrVectorOf, Fits, IsReturnType, IsAnswerOf, RefusedThoughTaken, IsChosenCall}
 use Rattle.wgsl_syntax.specs.declared.call.ScalarKind.TheVariants.{Integer}
 use Rattle.wgsl_syntax.specs.declared.call.Shape.TheVariants.{Any, ScalarOrVectorOf, To}
 use Rattle.wgsl_syntax.specs.declared.call.Source.TheVariants.{Common}
 use Rattle.wgsl_syntax.specs.declared.call.ReturnType.TheVariants.{Concrete}
 use Rattle.wgsl_syntax.specs.declared.call.Arguments.TheVariants.{Four}
-use Rattle.wgsl_syntax.specs.declared.call.Row.{Row}
 use Rattle.wgsl_syntax.specs.declared.call.Row.TheVariants.{Takes}
-use Rattle.wgsl_rules.specs.calls.Shapes.{IsScalarOrVectorOf}
-use Rattle.wgsl_rules.specs.calls.Rows.{Fits, IsReturnType}
-use Rattle.wgsl_rules.specs.calls.Answers.{IsAnswerOf, RefusedThoughTaken, IsChosenCall}
 use Rattle.wgsl_rules.proofs.conversion.Commons.{values_head, values_tail}
 use Rattle.wgsl_rules.proofs.operators.FamilyKinds.{a_number, or_vector, Admits, above_admits, above_admitted}
 use Rattle.wgsl_rules.proofs.operators.Forms.{insert_form}

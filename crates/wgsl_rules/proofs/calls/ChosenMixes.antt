@@ -1,28 +1,13 @@
 -- `mix` and `refract`: their rows return the least candidate's result.
-use Rattle.std.proofs.Common.{◌≡◌, ℕ, ◌⊎◌, List, [], ◌∷◌, Option, None, Some, Err, inl, inr, All, refl, sym, ap, subst, subst₂, ◌∙◌, option_map}
-use Rattle.std.specs.Option.{option_and_then}
-use Rattle.std.proofs.lemmas.List.Elements.{All-cons}
-use Rattle.wgsl_syntax.specs.declared.scalar.Scalar.{Scalar}
-use Rattle.wgsl_syntax.specs.declared.scalar.Scalar.TheVariants.{AbstractInt}
-use Rattle.wgsl_rules.specs.types.Types.{vec_of, WgslType, scalar, within, vec}
-use Rattle.wgsl_rules.specs.types.Kinds.{IsFloat, IsVector, IsAbstractIntOrVector}
-use Rattle.wgsl_rules.specs.conversion.Conversion.{IsValueType}
-use Rattle.wgsl_rules.specs.conversion.Common.{IsLeftCommon}
-use Rattle.wgsl_rules.specs.operators.Candidates.{Name, mix, refract, IsMixed, IsCandidate, of_two, of_three, mixed}
-use Rattle.wgsl_rules.specs.operators.Choice.{Takes as TakenBy}
-use Rattle.wgsl_rules.specs.Headline.{Receives}
-use Rattle.wgsl_rules.specs.errors.Refusals.{signature}
+use Rattle.std.proofs.Common.{◌≡◌, ℕ, ◌⊎◌, List, [], ◌∷◌, Option, None, Some, Err, inl, inr, All, refl, sym, ap, subst, subst₂, ◌∙◌, option_map, option_and_then}
+use Rattle.wgsl_rules.proofs.Common.{All-cons, Scalar, AbstractInt, vec_of, WgslType, scalar, within, vec, IsFloat, IsVector, IsAbstractIntOrVector, IsValueType, IsLeftCommon, Name, mix, refract, IsMixed, IsCandidate, of_two, of_three, mixed, Takes as TakenBy, Receives, signature, Row, IsScalarOf, Fits, HaveEqualLengths, IsReturnType, vector_like, given, IsAnswerOf, RefusedThoughTaken, IsChosenCall}
 use Rattle.wgsl_syntax.specs.declared.call.ScalarKind.TheVariants.{Float}
 use Rattle.wgsl_syntax.specs.declared.call.Shape.TheVariants.{ScalarOf, ScalarOrVectorOf, Vector}
 use Rattle.wgsl_syntax.specs.declared.call.Condition.TheVariants.{EqualLengths}
 use Rattle.wgsl_syntax.specs.declared.call.Source.TheVariants.{CommonOfThree, CommonOfInner}
 use Rattle.wgsl_syntax.specs.declared.call.ReturnType.TheVariants.{Of, AsLong}
 use Rattle.wgsl_syntax.specs.declared.call.Arguments.TheVariants.{Three}
-use Rattle.wgsl_syntax.specs.declared.call.Row.{Row}
 use Rattle.wgsl_syntax.specs.declared.call.Row.TheVariants.{TakesWhere}
-use Rattle.wgsl_rules.specs.calls.Shapes.{IsScalarOf}
-use Rattle.wgsl_rules.specs.calls.Rows.{Fits, HaveEqualLengths, IsReturnType, vector_like, given}
-use Rattle.wgsl_rules.specs.calls.Answers.{IsAnswerOf, RefusedThoughTaken, IsChosenCall}
 use Rattle.wgsl_rules.proofs.conversion.Order.{above_to_within, above_converts}
 use Rattle.wgsl_rules.proofs.conversion.Commons.{receives_nil, receives_cons, values_head, values_tail, left_common_none}
 use Rattle.wgsl_rules.proofs.operators.FamilyKinds.{any_scalar, a_float, or_vector, Admits, above_admits, above_admitted, as_scalar, float_above, plain, layer, outers, above_outer}

@@ -1,21 +1,12 @@
 -- `select`: its rows return the least candidate's result.
 use Rattle.std.proofs.Common.{option_map, Option, Some, ◌≡◌, ℕ, List, [], ◌∷◌, inl, inr, All, refl, sym, ap, subst, ◌∙◌}
-use Rattle.wgsl_syntax.specs.declared.scalar.Scalar.TheVariants.{Bool}
-use Rattle.wgsl_rules.specs.types.Types.{vec_of, WgslType, scalar, within, vec}
-use Rattle.wgsl_rules.specs.types.Kinds.{IsVector}
-use Rattle.wgsl_rules.specs.conversion.Conversion.{ConvertsTo, IsValueType}
-use Rattle.wgsl_rules.specs.operators.Candidates.{select, IsCandidate, of_two, of_three, either, each_either, mixed}
-use Rattle.wgsl_rules.specs.operators.Choice.{Takes as TakenBy}
+use Rattle.wgsl_rules.proofs.Common.{Bool, vec_of, WgslType, scalar, within, vec, IsVector, ConvertsTo, IsValueType, select, IsCandidate, of_two, of_three, either, each_either, mixed, Takes as TakenBy, Row, IsScalarOf, IsVectorOf, Fits, IsReturnType, given, IsAnswerOf, RefusedThoughTaken, IsChosenCall}
 use Rattle.wgsl_syntax.specs.declared.call.ScalarKind.TheVariants.{Boolean}
 use Rattle.wgsl_syntax.specs.declared.call.Shape.TheVariants.{Any, ScalarOf, VectorOf, Vector, ScalarOrVector}
 use Rattle.wgsl_syntax.specs.declared.call.Source.TheVariants.{Common}
 use Rattle.wgsl_syntax.specs.declared.call.ReturnType.TheVariants.{Of}
 use Rattle.wgsl_syntax.specs.declared.call.Arguments.TheVariants.{Three}
-use Rattle.wgsl_syntax.specs.declared.call.Row.{Row}
 use Rattle.wgsl_syntax.specs.declared.call.Row.TheVariants.{Takes}
-use Rattle.wgsl_rules.specs.calls.Shapes.{IsScalarOf, IsVectorOf}
-use Rattle.wgsl_rules.specs.calls.Rows.{Fits, IsReturnType, given}
-use Rattle.wgsl_rules.specs.calls.Answers.{IsAnswerOf, RefusedThoughTaken, IsChosenCall}
 use Rattle.wgsl_rules.proofs.conversion.Order.{Above, here, above_to_within, above_converts}
 use Rattle.wgsl_rules.proofs.conversion.Commons.{values_head, values_tail}
 use Rattle.wgsl_rules.proofs.operators.Families.{IsPut}

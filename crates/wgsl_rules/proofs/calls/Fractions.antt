@@ -1,13 +1,8 @@
 -- Each type that `frexp` and `modf` take has one shape and one precision.
 use Rattle.std.proofs.Common.{◌≡◌, ℕ, zero, suc, refl, sym, ap, ◌∙◌}
-use Rattle.wgsl_syntax.specs.declared.scalar.Scalar.{Scalar}
-use Rattle.wgsl_syntax.specs.declared.scalar.Scalar.TheVariants.{Bool, F32, F16}
-use Rattle.wgsl_syntax.specs.declared.result_struct.ResultShape.{ResultShape}
+use Rattle.wgsl_rules.proofs.Common.{Scalar, Bool, F32, F16, ResultShape, ResultPrecision, vec_of, WgslType, scalar, within, shaped, float_of}
 use Rattle.wgsl_syntax.specs.declared.result_struct.ResultShape.TheVariants as shape
-use Rattle.wgsl_syntax.specs.declared.result_struct.ResultPrecision.{ResultPrecision}
 use Rattle.wgsl_syntax.specs.declared.result_struct.ResultPrecision.TheVariants as precision
-use Rattle.wgsl_rules.specs.types.Types.{vec_of, WgslType, scalar, within}
-use Rattle.wgsl_rules.specs.types.ResultStructs.{shaped, float_of}
 
 components : WgslType → ℕ
 components (within (vec_of n) t) = n

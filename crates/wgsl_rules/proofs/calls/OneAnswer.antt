@@ -1,22 +1,11 @@
 -- A call of a built-in function has at most one answer, with a template or without.
-use Rattle.std.proofs.Common.{◌≡◌, List, [], ◌∷◌, Option, None, Some, Result, Ok, Err, inl, inr, refl, sym, ap, subst, ◌∙◌, option_map}
-use Rattle.std.specs.Option.{option_and_then}
-use Rattle.wgsl_syntax.specs.declared.result_struct.ResultFunction.{ResultFunction}
-use Rattle.wgsl_rules.specs.types.Types.{WgslType, vec}
-use Rattle.wgsl_rules.specs.types.Inner.{inner_of}
-use Rattle.wgsl_rules.specs.conversion.Concrete.{concretized}
-use Rattle.wgsl_rules.specs.types.ResultStructs.{result_struct}
-use Rattle.wgsl_rules.specs.types.Signatures.{Parameter, Signature}
-use Rattle.wgsl_rules.specs.errors.Refusals.{Refusal}
+use Rattle.std.proofs.Common.{◌≡◌, List, [], ◌∷◌, Option, None, Some, Result, Ok, Err, inl, inr, refl, sym, ap, subst, ◌∙◌, option_map, option_and_then}
+use Rattle.wgsl_rules.proofs.Common.{ResultFunction, WgslType, vec, inner_of, concretized, result_struct, Parameter, Signature, Refusal, Source, Row, call_table, rows_named, IsAnswerOf, IsCallAnswer}
 use Rattle.wgsl_rules.specs.calls.ResultTypes.{IsResultOf}
-use Rattle.wgsl_syntax.specs.declared.call.Source.{Source}
 use Rattle.wgsl_syntax.specs.declared.call.ReturnType.{ReturnType}
 use Rattle.wgsl_syntax.specs.declared.call.Source.TheVariants.{Argument, Inner, InnerOfInner, Common, InnerOfCommon, CommonOfThree, CommonOfInner, The, SampledAs, Channel}
 use Rattle.wgsl_syntax.specs.declared.call.ReturnType.TheVariants.{Of, Concrete, AsLong, InVector, Transposed, TextureSize, ResultOf, ExchangeResult, RayIntersection, HitPositions, NoValue, ByTemplate}
-use Rattle.wgsl_syntax.specs.declared.call.Row.{Row}
 use Rattle.wgsl_rules.specs.calls.Rows.{return_type_of, first, second, third, IsCommonOf, IsSource, vector_like, IsResultFor, given, IsFromTemplate, IsReturnType}
-use Rattle.wgsl_rules.specs.calls.Table.{call_table, rows_named}
-use Rattle.wgsl_rules.specs.calls.Answers.{IsAnswerOf, IsCallAnswer}
 use Rattle.wgsl_rules.proofs.conversion.Commons.{common_once}
 use Rattle.wgsl_rules.proofs.templates.OneAnswer.{bitcast_template_once}
 use Rattle.wgsl_rules.proofs.calls.Fractions.{one_fraction}

@@ -1,15 +1,9 @@
 -- What the rows of the functions with candidates ask of the first argument, and which calls they refuse for it.
 use Rattle.std.proofs.Common.{ℕ, ◌⊎◌, List, [], ◌∷◌, inl, inr, refl, sym, ap, subst, ◌∙◌}
-use Rattle.wgsl_syntax.specs.declared.scalar.Scalar.{Scalar}
-use Rattle.wgsl_syntax.specs.declared.scalar.Scalar.TheVariants.{AbstractInt, AbstractFloat, F32, F16, F64}
-use Rattle.wgsl_rules.specs.types.Types.{vec_of, WgslType, scalar, within, vec}
-use Rattle.wgsl_rules.specs.types.Kinds.{IsFloat, IsFloatOrVector, IsAbstractIntOrVector}
+use Rattle.wgsl_rules.proofs.Common.{Scalar, AbstractInt, AbstractFloat, F32, F16, F64, vec_of, WgslType, scalar, within, vec, IsFloat, IsFloatOrVector, IsAbstractIntOrVector, Shape, Is, IsScalarOf, IsVectorOf, IsScalarOrVectorOf, RefusedThoughTaken}
 use Rattle.wgsl_rules.specs.operators.Candidates.{Name, atan2, step, cross, reflect, distance, fma, smoothstep, face_forward, mix, refract, insert_bits}
 use Rattle.wgsl_syntax.specs.declared.call.ScalarKind.TheVariants.{Number, Float}
-use Rattle.wgsl_syntax.specs.declared.call.Shape.{Shape}
 use Rattle.wgsl_syntax.specs.declared.call.Shape.TheVariants.{Any, VectorOf, ScalarOrVectorOf}
-use Rattle.wgsl_rules.specs.calls.Shapes.{Is, IsScalarOf, IsVectorOf, IsScalarOrVectorOf}
-use Rattle.wgsl_rules.specs.calls.Answers.{RefusedThoughTaken}
 use Rattle.wgsl_rules.proofs.conversion.Order.{Above, above_to_within}
 use Rattle.wgsl_rules.proofs.operators.FamilyKinds.{Kind, any_type, a_number, a_float, or_vector, vector_of, Admits, above_admits, above_admitted, float_above}
 

@@ -1,7 +1,6 @@
 -- The names of the built-in functions are sorted and distinct.
-use Rattle.std.proofs.Common.{ℕ, suc, zero, ◌≡◌, ◌<◌, ◌&&◌, List, [], ◌∷◌, length, Bool, true, false, refl, sym, arith, true≢false}
+use Rattle.std.proofs.Common.{ℕ, suc, zero, ◌≡◌, ◌<◌, ◌&&◌, List, [], ◌∷◌, length, Bool, true, false, refl, sym, arith, true≢false, nat_cmp, is_lt}
 use Rattle.std.specs.Cmp.Lexicographic.{slice_cmp, nat_list_cmp_total}
-use Rattle.std.specs.Ordering.{nat_cmp, is_lt}
 use Rattle.std.specs.declared.cmp.Ordering.{Ordering}
 use Rattle.std.specs.declared.cmp.Ordering.TheVariants.{Less, Equal, Greater}
 use Rattle.wgsl_rules.specs.calls.Names.{IsRising, name_at, call_names}

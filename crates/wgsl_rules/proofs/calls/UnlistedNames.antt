@@ -4,9 +4,7 @@ use Rattle.std.specs.List.{list_any, list_all}
 use Rattle.std.proofs.lemmas.Slice.Eq.{bytes_eq-Decides}
 use Rattle.std.proofs.lemmas.List as lists
 use Rattle.std.proofs.lemmas.List.{length-map}
-use Rattle.wgsl_rules.specs.calls.Names.{IsNameAt, call_names}
-use Rattle.wgsl_syntax.specs.declared.call.Row.{Row}
-use Rattle.wgsl_rules.specs.calls.Table.{call_table, Line, rows_named}
+use Rattle.wgsl_rules.proofs.Common.{IsNameAt, call_names, Row, call_table, Line, rows_named}
 
 either : (a b : Bool) → a ≡ false → b ≡ false → (a || b) ≡ false
 either true b h k = absurd (true≢false h)

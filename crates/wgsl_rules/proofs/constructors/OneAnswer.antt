@@ -1,13 +1,6 @@
 -- A constructor's call has at most one answer.
 use Rattle.std.proofs.Common.{◌≡◌, ℕ, ◌*◌, ◌⊎◌, List, [], ◌∷◌, Option, Some, None, Result, Ok, Err, All, codes, length, map, ok_or, inl, inr, sym, ap, subst, ◌∙◌}
-use Rattle.wgsl_rules.specs.types.Types.{WgslType, scalar, array, vec, mat}
-use Rattle.wgsl_rules.specs.types.Kinds.{IsScalarOrVector, IsFloatScalar}
-use Rattle.wgsl_rules.specs.types.Inner.{inner_of}
-use Rattle.wgsl_rules.specs.types.Signatures.{Parameter, Signature}
-use Rattle.wgsl_rules.specs.conversion.Conversion.{ConvertsTo}
-use Rattle.wgsl_rules.specs.errors.Refusals.{Refusal, builtin, conversion, param_count}
-use Rattle.wgsl_rules.specs.Headline.{Receives}
-use Rattle.wgsl_rules.specs.templates.Templates.{IsVecTemplate, IsMatTemplate, array_template}
+use Rattle.wgsl_rules.proofs.Common.{WgslType, scalar, array, vec, mat, IsScalarOrVector, IsFloatScalar, inner_of, Parameter, Signature, ConvertsTo, Refusal, builtin, conversion, param_count, Receives, IsVecTemplate, IsMatTemplate, array_template}
 use Rattle.wgsl_rules.specs.constructors.Steps.{Either, Then, ThenCommon, IsCounted, IsFirstStuck}
 use Rattle.wgsl_rules.specs.constructors.Vectors.{BringsComponents, all_components, no_components, IsTypedVectorOfOne, IsTypedVectorOfSeveral, IsTypedVector, IsUntypedVectorOfOne, IsUntypedVectorOfSeveral, IsUntypedVector, IsVectorCall}
 use Rattle.wgsl_rules.specs.constructors.Matrices.{IsMatrixOf, IsTypedMatrixOf, IsTypedMatrixOfOne, IsTypedMatrix, IsUntypedMatrixOf, IsUntypedMatrixOfOne, IsUntypedMatrix, IsMatrixCall, component_of, incompatible_matrix, no_columns}

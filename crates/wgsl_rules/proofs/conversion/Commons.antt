@@ -1,11 +1,7 @@
 -- Common types of two types and of lists.
 use Rattle.std.proofs.Common.{◌≡◌, List, [], ◌∷◌, Option, Some, None, All, IsPermutation, refl, sym, ◌∙◌, ap, subst, inl, inr, arith}
-use Rattle.std.proofs.lemmas.List.Elements.{All-nil, All-cons, All-head, All-tail}
+use Rattle.wgsl_rules.proofs.Common.{All-nil, All-cons, All-head, All-tail, WgslType, IsValueType, ConvertsTo, IsCommon, IsLeftCommon, of_no_types, Receives, IsLeastCommon}
 use Rattle.std.proofs.lemmas.List.Sorted.{All-permutation, length_permutation, IsPermutation-sym}
-use Rattle.wgsl_rules.specs.types.Types.{WgslType}
-use Rattle.wgsl_rules.specs.conversion.Conversion.{IsValueType, ConvertsTo}
-use Rattle.wgsl_rules.specs.conversion.Common.{IsCommon, IsLeftCommon, of_no_types}
-use Rattle.wgsl_rules.specs.Headline.{Receives, IsLeastCommon}
 use Rattle.wgsl_rules.proofs.conversion.Folds.{IsFoldedFrom, IsFolded, folded}
 use Rattle.wgsl_rules.proofs.conversion.Order.{Above, here, above_trans, above_chain, above_values, above_converts, value_converts, dec_converts, converts_antisym}
 

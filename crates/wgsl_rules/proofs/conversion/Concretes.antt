@@ -1,13 +1,6 @@
 -- The concrete type of least rank.
 use Rattle.std.proofs.Common.{◌≡◌, ◌≢◌, ℕ, ◌<◌, ◌⊎◌, ◌↔◌, Some, None, Bool, true, false, refl, sym, ◌∙◌, ap, subst, inl, inr, arith}
-use native.Mathlib.Decide.{ℕ_discrete}
-use Rattle.wgsl_syntax.specs.declared.scalar.Scalar.{Scalar}
-use Rattle.wgsl_syntax.specs.declared.scalar.Scalar.TheVariants.{AbstractInt, AbstractFloat, I32, U32, F32, F16, I64, U64, F64}
-use Rattle.wgsl_rules.specs.types.Types.{Layer, array_of, vec_of, mat_of, WgslType, scalar, within}
-use Rattle.wgsl_rules.specs.conversion.Conversion.{int_to_i32, float_to_f32, base, IsValueType}
-use Rattle.wgsl_rules.specs.types.Kinds.{IsFloatScalar}
-use Rattle.wgsl_rules.specs.conversion.Concrete.{is_abstract, IsAbstract, HasFloatMatrices, concretized}
-use Rattle.wgsl_rules.specs.Headline.{IsLeastConcrete}
+use Rattle.wgsl_rules.proofs.Common.{ℕ_discrete, Scalar, AbstractInt, AbstractFloat, I32, U32, F32, F16, I64, U64, F64, Layer, array_of, vec_of, mat_of, WgslType, scalar, within, int_to_i32, float_to_f32, base, IsValueType, IsFloatScalar, is_abstract, IsAbstract, HasFloatMatrices, concretized, IsLeastConcrete}
 use Rattle.wgsl_rules.proofs.conversion.Steps.{depth}
 use Rattle.wgsl_rules.proofs.conversion.Order.{Above, here, further, above_depth, above_level, above_inside, above_from_within, above_converts, value_converts}
 use Rattle.wgsl_rules.proofs.conversion.Equations.{above_plain, IsPlainScalar, scalar_rank, converts_scalar}

@@ -1,8 +1,6 @@
 -- Converting a type to a type has exactly one result.
 use Rattle.std.proofs.Common.{◌≡◌, Option, Some, None, option_map, refl, sym, ap, ◌∙◌}
-use Rattle.wgsl_rules.specs.types.Types.{WgslType, within}
-use Rattle.wgsl_rules.specs.conversion.Conversion.{ConvertsTo}
-use Rattle.wgsl_rules.specs.conversion.Converted.{IsConverted, IsConvertedInside}
+use Rattle.wgsl_rules.proofs.Common.{WgslType, within, ConvertsTo, IsConverted, IsConvertedInside}
 use Rattle.wgsl_rules.proofs.conversion.Order.{dec_converts}
 
 pub what_converted : (t u : WgslType) → (r : Option WgslType) × IsConverted t u r

@@ -1,13 +1,8 @@
 -- Conversions with the number of their steps.
-use Rattle.std.proofs.Common.{◌≡◌, ℕ, ◌+◌, ◌≤◌, ◌↔◌, length, refl, sym, ◌∙◌, ap, subst, inl, inr, arith}
-use Rattle.wgsl_rules.specs.types.Types.{Layer, WgslType, within}
-use Rattle.wgsl_rules.specs.conversion.Conversion.{Path, PathOf, Load, load_inside, Converts, ConvertsIn}
-use Rattle.wgsl_rules.proofs.conversion.Steps.{depth, height, height_small, step_height}
-use Rattle.wgsl_rules.proofs.conversion.Order.{Above, here, further, above_from_within, above_inside, along_above, above_along, path_height, load_above, load_within, converts_once}
-
-above_height : {t u : WgslType} → Above t u → height t ≤ height u
-above_height here = omega arith
-above_height (further a s) = omega (arith, above_height a, step_height s)
+use Rattle.std.proofs.Common.{◌≡◌, ℕ, ◌+◌, ◌↔◌, length, refl, sym, ◌∙◌, ap, subst, inl, inr, arith}
+use Rattle.wgsl_rules.proofs.Common.{Layer, WgslType, within, Path, PathOf, Load, load_inside, Converts, ConvertsIn}
+use Rattle.wgsl_rules.proofs.conversion.Steps.{depth, height}
+use Rattle.wgsl_rules.proofs.conversion.Order.{Above, here, above_from_within, above_inside, along_above, above_along, path_height, load_above, load_within, converts_once}
 
 pub counted_above : {t u : WgslType} {w n : ℕ} → PathOf t u w n → Above t u × (depth u ≡ depth t + w) × (height u ≡ height t + n)
 counted_above {t} {u} a =
@@ -32,11 +27,6 @@ converts_counted t u w = (to, back)
 
 pub counted_converts : {t u : WgslType} {w n : ℕ} → ConvertsIn t u w n → Converts t u w
 counted_converts {t} {u} {w} {n} h = (converts_counted t u w).1 (n, h)
-
--- no conversion takes more than two steps
-pub converts_in_short : {t u : WgslType} {w n : ℕ} → ConvertsIn t u w n → n ≤ 2
-converts_in_short {u = u} (inl a) = omega (arith, (counted_above a).2, height_small u)
-converts_in_short (inr h) = omega (arith, h.2)
 
 -- the rank and the number of steps of a conversion are unique
 pub converts_in_once : {t u : WgslType} {v w n m : ℕ} → ConvertsIn t u v n → ConvertsIn t u w m → (v ≡ w) × (n ≡ m)

@@ -1,19 +1,9 @@
 -- Conversion for each kind of type, as the functions that decide it need it.
-use Rattle.std.proofs.Common.{◌≡◌, ◌≢◌, ℕ, ◌+◌, ◌⊎◌, ◌↔◌, Option, Some, None, refl, sym, ◌∙◌, ap, subst, subst₂, List, inl, inr, arith}
-use Rattle.wgsl_syntax.specs.declared.scalar.Scalar.{Scalar}
-use Rattle.wgsl_syntax.specs.declared.scalar.Scalar.TheVariants.{Bool, AbstractInt, AbstractFloat, I32, U32, F32, F16, I64, U64, F64}
-use Rattle.wgsl_syntax.specs.declared.address.AddressSpace.{AddressSpace}
-use Rattle.wgsl_syntax.specs.declared.address.AccessMode.{AccessMode}
-use Rattle.wgsl_syntax.specs.declared.result_struct.ResultFunction.{ResultFunction}
-use Rattle.wgsl_syntax.specs.declared.result_struct.ResultShape.{ResultShape}
-use Rattle.wgsl_syntax.specs.declared.result_struct.ResultPrecision.{ResultPrecision}
+use Rattle.std.proofs.Common.{◌≡◌, ◌≢◌, ℕ, ◌+◌, ◌⊎◌, ◌↔◌, Option, Some, None, refl, sym, ◌∙◌, ap, subst, inl, inr, arith}
+use Rattle.wgsl_rules.proofs.Common.{Scalar, Bool, AbstractInt, AbstractFloat, I32, U32, F32, F16, I64, U64, F64, AddressSpace, AccessMode, ResultFunction, ResultShape, ResultPrecision, Layer, WgslType, scalar, within, reference, struct, result_struct, MayRead, scalar_depth}
 use Rattle.wgsl_syntax.specs.declared.result_struct.ResultPrecision.TheVariants as precision
-use Rattle.wgsl_rules.specs.types.Types.{Layer, WgslType, scalar, within, reference, struct, Members}
-use Rattle.wgsl_rules.specs.types.ResultStructs.{result_struct}
-use Rattle.wgsl_syntax.specs.Address.{MayRead}
 use Rattle.wgsl_rules.specs.conversion.Conversion.{BaseStep, int_to_float, int_to_i32, int_to_u32, int_to_i64, int_to_u64, float_to_f32, float_to_f16, result_to_f32, result_to_f16, Step, base, inside, Load, load, load_inside, Converts}
-use Rattle.wgsl_rules.specs.internal.Nodes.{scalar_depth}
-use Rattle.wgsl_rules.proofs.conversion.Steps.{depth, depth-result_struct, parent, scalar_at, step_parent}
+use Rattle.wgsl_rules.proofs.conversion.Steps.{depth, parent, scalar_at, step_parent}
 use Rattle.wgsl_rules.proofs.conversion.Order.{Above, here, further, above_inside, above_from_within, above_along, along_above, value_converts, above_target, converts_once, dec_converts}
 
 -- the rank as a function
@@ -269,83 +259,3 @@ plain_as_scalar t h = absurd h
 
 pub converts_from_scalar : (a : Scalar) (u : WgslType) (w : ℕ) → Converts (scalar a) u w → (b : Scalar) × (u ≡ scalar b)
 converts_from_scalar a u w h = plain_as_scalar u (above_plain (value_converts {t = scalar a} tt h).0 tt)
-
--- structs: at most one step
-abbrev IsStruct : WgslType → Type 0
-IsStruct (struct n ms) = Unit {0}
-IsStruct t = ⊥
-
-abbrev pub IsResultStep : WgslType → WgslType → ℕ → Type 0
-IsResultStep t u w = (m : ResultFunction) × (s : ResultShape) × (t ≡ result_struct m s precision.Abstract) ×
-    ((u ≡ result_struct m s precision.F32) × (w ≡ 1) ⊎ (u ≡ result_struct m s precision.F16) × (w ≡ 2))
-
-base_struct : {t u : WgslType} {w : ℕ} → BaseStep t u w → IsStruct t → IsResultStep t u w
-base_struct int_to_float h = absurd h
-base_struct int_to_i32 h = absurd h
-base_struct int_to_u32 h = absurd h
-base_struct int_to_i64 h = absurd h
-base_struct int_to_u64 h = absurd h
-base_struct float_to_f32 h = absurd h
-base_struct float_to_f16 h = absurd h
-base_struct (result_to_f32 m s) h = (m, s, refl, inl (refl, refl))
-base_struct (result_to_f16 m s) h = (m, s, refl, inr (refl, refl))
-
-result_is_struct : (m : ResultFunction) (s : ResultShape) → IsStruct (result_struct m s precision.F32) × IsStruct (result_struct m s precision.F16)
-unfolding result_struct
-result_is_struct m s = (tt, tt)
-
-result_target_struct : {t u : WgslType} {w : ℕ} → IsResultStep t u w → IsStruct u
-result_target_struct h = elim h.3 [
-  | inl p ↦ subst IsStruct (sym p.0) (result_is_struct h.0 h.1).0
-  | inr p ↦ subst IsStruct (sym p.0) (result_is_struct h.0 h.1).1
-]
-
-step_struct : {t u : WgslType} {w : ℕ} → Step t u w → IsStruct t → IsResultStep t u w
-step_struct (base b) h = base_struct b h
-step_struct (inside l s) h = absurd h
-
-abstract_depth : {t u : WgslType} {w : ℕ} → IsResultStep t u w → depth t ≡ 0
-abstract_depth h = ap depth h.2 ∙ depth-result_struct h.0 h.1 precision.Abstract
-
-above_struct : {t u : WgslType} → Above t u → IsStruct t → (t ≡ u) ⊎ ((w : ℕ) × IsResultStep t u w)
-above_struct here h = inl refl
-above_struct {t} (further {u = v} {v = u} {w = w} a s) h = elim (above_struct a h) [
-  | inl e ↦ inr (w, step_struct (subst (λ v. Step v u w) (sym e) s) h)
-  | inr k ↦
-      let m = step_struct s (result_target_struct k.1) in
-      absurd (no_more (abstract_depth m) k.1)
-]
-  where
-    no_more : {x : ℕ} → depth v ≡ 0 → IsResultStep t v x → ⊥
-    no_more z h = elim h.3 [
-      | inl p ↦ omega (arith, z, ap depth p.0, depth-result_struct h.0 h.1 precision.F32)
-      | inr p ↦ omega (arith, z, ap depth p.0, depth-result_struct h.0 h.1 precision.F16)
-    ]
-
-result_depth : {t u : WgslType} {w : ℕ} → IsResultStep t u w → depth u ≡ depth t + w
-result_depth h = elim h.3 [
-  | inl p ↦ omega (arith, abstract_depth h, ap depth p.0, depth-result_struct h.0 h.1 precision.F32, p.1)
-  | inr p ↦ omega (arith, abstract_depth h, ap depth p.0, depth-result_struct h.0 h.1 precision.F16, p.1)
-]
-
-result_step : {t u : WgslType} {w : ℕ} → IsResultStep t u w → Above t u
-result_step {t} {u} h = elim h.3 [
-  | inl p ↦ subst₂ (λ t u. Above t u) (sym h.2) (sym p.0) (further here (base (result_to_f32 h.0 h.1)))
-  | inr p ↦ subst₂ (λ t u. Above t u) (sym h.2) (sym p.0) (further here (base (result_to_f16 h.0 h.1)))
-]
-
-pub converts_struct : (n : List ℕ) (ms : Members) (u : WgslType) (w : ℕ) →
-    Converts (struct n ms) u w ↔ ((w ≡ 0) × (struct n ms ≡ u)) ⊎ IsResultStep (struct n ms) u w
-converts_struct n ms u w = (to, back)
-  where
-    to : Converts (struct n ms) u w → ((w ≡ 0) × (struct n ms ≡ u)) ⊎ IsResultStep (struct n ms) u w
-    to h =
-        let k = value_converts {t = struct n ms} tt h in
-        elim (above_struct k.0 tt) [
-          | inl e ↦ inl (omega (arith, k.1, ap depth e), e)
-          | inr m ↦ let e : m.0 ≡ w = omega (arith, k.1, result_depth m.1) in inr (subst (λ w. IsResultStep (struct n ms) u w) e m.1)
-        ]
-
-    back : ((w ≡ 0) × (struct n ms ≡ u)) ⊎ IsResultStep (struct n ms) u w → Converts (struct n ms) u w
-    back (inl h) = subst (λ w. Converts (struct n ms) u w) (sym h.0) (subst (λ u. Converts (struct n ms) u 0) h.1 (converts_same (struct n ms)))
-    back (inr h) = inl (above_along (result_step h) (result_depth h))

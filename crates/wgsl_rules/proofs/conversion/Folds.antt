@@ -1,8 +1,6 @@
 -- The left common type as a fold from the front, as code reads a list.
-use Rattle.std.proofs.Common.{◌≡◌, ◌≢◌, ◌↔◌, List, [], ◌∷◌, ◌++◌, Option, Some, None, refl, sym, subst}
-use Rattle.std.proofs.lemmas.List.{append-nil, append_assoc}
-use Rattle.wgsl_rules.specs.types.Types.{WgslType}
-use Rattle.wgsl_rules.specs.conversion.Common.{IsCommon, IsCommonWith, IsLeftCommon, of_no_types, of_one_type, of_last_member}
+use Rattle.std.proofs.Common.{◌≡◌, ◌≢◌, ◌↔◌, List, [], ◌∷◌, ◌++◌, Option, Some, None, refl, sym, subst, append-nil, append_assoc}
+use Rattle.wgsl_rules.proofs.Common.{WgslType, IsCommon, IsCommonWith, IsLeftCommon, of_no_types, of_one_type, of_last_member}
 
 -- the common type so far, combined with each type of the list in turn
 abbrev pub IsFoldedFrom : Option WgslType → List WgslType → Option WgslType → Type 0

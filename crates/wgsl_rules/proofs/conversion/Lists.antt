@@ -1,10 +1,7 @@
 -- Common types of lists, one type after another.
 use Rattle.std.proofs.Common.{◌≡◌, ◌≢◌, ◌⊎◌, List, [], ◌∷◌, ◌++◌, Option, Some, None, refl, sym, subst, inl, inr}
-use Rattle.wgsl_rules.specs.types.Types.{WgslType}
-use Rattle.wgsl_rules.specs.conversion.Common.{IsLeftCommon}
-use Rattle.wgsl_rules.specs.Laws.{LeftCommonIsLeast}
+use Rattle.wgsl_rules.proofs.Common.{WgslType, IsLeftCommon, LeftCommonIsLeast, Receives, IsLeastCommon, IsLeastCommonAnswer}
 use Rattle.wgsl_rules.specs.conversion.Lists.{IsCommonOfList, IsCommonOfGiven}
-use Rattle.wgsl_rules.specs.Headline.{Receives, IsLeastCommon, IsLeastCommonAnswer}
 use Rattle.wgsl_rules.proofs.conversion.Folds.{IsFolded, folded, none_follows}
 use Rattle.wgsl_rules.proofs.conversion.Commons.{least_permuted}
 use Rattle.wgsl_rules.proofs.Laws.{left_is_least}

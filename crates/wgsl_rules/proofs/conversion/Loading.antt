@@ -1,9 +1,6 @@
 -- Loaded types.
 use Rattle.std.proofs.Common.{◌≡◌, refl, subst}
-use Rattle.wgsl_syntax.specs.declared.address.AddressSpace.{AddressSpace}
-use Rattle.wgsl_syntax.specs.declared.address.AccessMode.{AccessMode}
-use Rattle.wgsl_rules.specs.types.Types.{WgslType, reference}
-use Rattle.wgsl_rules.specs.conversion.Loading.{IsReference, loaded_of}
+use Rattle.wgsl_rules.proofs.Common.{AddressSpace, AccessMode, WgslType, reference, IsReference, loaded_of}
 
 no_reference : (t : WgslType) → ¬ IsReference (loaded_of t)
 no_reference (reference s t m) h = no_reference t h

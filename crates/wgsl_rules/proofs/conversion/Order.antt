@@ -1,14 +1,10 @@
 -- Paths lead from parents to children: the types above a type are a chain, and weights are differences of ranks from
 -- the root.
 use Rattle.std.proofs.Common.{◌≡◌, ◌≢◌, ℕ, zero, suc, ◌+◌, ◌<◌, ◌≤◌, ◌-◌, ◌⊎◌, ◌↔◌, List, [], ◌∷◌, ◌++◌, length, refl, sym, ◌∙◌, ap, subst, inl, inr, arith, le_refl}
-use Rattle.wgsl_syntax.specs.declared.address.AddressSpace.{AddressSpace}
-use Rattle.wgsl_syntax.specs.declared.address.AccessMode.{AccessMode}
-use Rattle.wgsl_syntax.specs.declared.address.AccessMode.TheVariants.{Read, Write, ReadWrite, Atomic}
-use Rattle.wgsl_rules.specs.types.Types.{Layer, WgslType, within, reference}
-use Rattle.wgsl_syntax.specs.Address.{MayRead}
+use Rattle.wgsl_rules.proofs.Common.{AddressSpace, AccessMode, Read, Write, ReadWrite, Atomic, Layer, WgslType, within, reference, MayRead}
 use Rattle.wgsl_rules.specs.conversion.Conversion.{Step, inside, IsValueType, Leg, IsPath, path_weight, Load, load, load_inside, Path, Converts, ConvertsTo}
 use Rattle.wgsl_rules.proofs.types.Equality.{same_type, same_layer}
-use Rattle.wgsl_rules.proofs.conversion.Steps.{depth, height, height_small, step_height, target, step_depth, step_positive, step_parent, step_target, step_family, step_values, step_to_within, step_from_within, IsChild, child}
+use Rattle.wgsl_rules.proofs.conversion.Steps.{depth, height, step_height, target, step_depth, step_positive, step_parent, step_target, step_family, step_values, step_to_within, step_from_within, IsChild, child}
 
 pub data Above : WgslType → WgslType → Type 0 where
   here : {t : WgslType} → Above t t
@@ -95,10 +91,6 @@ path_height t u [] p = omega (arith, ap height p)
 path_height t u (leg ∷ legs) p =
     let s : Step t leg.to leg.weight = subst (λ t. Step t leg.to leg.weight) p.0 p.1 in
     omega (arith, path_height leg.to u legs p.2, step_height s)
-
--- no path has more than two legs
-pub path_short : (t u : WgslType) (legs : List Leg) → IsPath t legs u → length legs ≤ 2
-path_short t u legs p = omega (arith, path_height t u legs p, height_small u)
 
 -- Whether one type is above another
 

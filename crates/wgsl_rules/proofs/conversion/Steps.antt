@@ -1,18 +1,11 @@
 -- Each type has at most one parent, from which a step leads to it. A step raises the rank from the root by its weight.
 use Rattle.std.proofs.Common.{◌≡◌, ◌≢◌, ℕ, ◌+◌, ◌<◌, ◌≤◌, List, ◌++◌, ap₂, cond, eqb, get_or, refl, sym, ◌∙◌, ap, subst, arith}
-use Rattle.wgsl_syntax.specs.declared.scalar.Scalar.{Scalar}
-use Rattle.wgsl_syntax.specs.declared.scalar.Scalar.TheVariants.{Bool, AbstractInt, AbstractFloat, I32, U32, F32, F16, I64, U64}
-use Rattle.wgsl_syntax.specs.declared.result_struct.ResultFunction.{ResultFunction}
-use Rattle.wgsl_syntax.specs.declared.result_struct.ResultFunction.TheVariants.{Frexp, Modf}
-use Rattle.wgsl_syntax.specs.declared.result_struct.ResultShape.{ResultShape}
+use Rattle.wgsl_rules.proofs.Common.{Scalar, Bool, AbstractInt, AbstractFloat, I32, U32, F32, F16, I64, U64, ResultFunction, Frexp, Modf, ResultShape, ResultPrecision, float_of, shaped, result_members, result_struct, precision_depth, scalar_depth}
 use Rattle.wgsl_syntax.specs.declared.result_struct.ResultShape.TheVariants as shape
-use Rattle.wgsl_syntax.specs.declared.result_struct.ResultPrecision.{ResultPrecision}
 use Rattle.wgsl_syntax.specs.declared.result_struct.ResultPrecision.TheVariants as precision
 use Rattle.wgsl_rules.specs.types.Types.{Layer, vec_of, WgslType, scalar, within, reference, struct, Members, no_members, member}
-use Rattle.wgsl_rules.specs.types.ResultStructs.{float_of, shaped, result_members, result_struct}
 use Rattle.wgsl_syntax.specs.ResultStruct.{function_text, shape_text, precision_text}
 use Rattle.wgsl_rules.specs.conversion.Conversion.{BaseStep, int_to_float, int_to_i32, int_to_u32, int_to_i64, int_to_u64, float_to_f32, float_to_f16, result_to_f32, result_to_f16, Step, base, inside, IsValueType}
-use Rattle.wgsl_rules.specs.internal.Nodes.{precision_depth, scalar_depth}
 use Rattle.wgsl_rules.proofs.types.Equality.{same_type}
 
 -- Ranks from the root

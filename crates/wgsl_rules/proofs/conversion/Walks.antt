@@ -1,21 +1,11 @@
 -- A conversion between nodes is a walk from the target to its parents, until it meets the source.
-use Rattle.std.proofs.Common.{◌≡◌, ◌≢◌, ℕ, ◌+◌, ◌-◌, ◌<◌, ◌≤◌, ◌⊎◌, ◌↔◌, Some, None, cond, eqb, refl, sym, ◌∙◌, ap, subst, subst₂, inl, inr, arith}
-use Rattle.wgsl_syntax.specs.declared.scalar.Scalar.{Scalar}
-use Rattle.wgsl_syntax.specs.declared.scalar.Scalar.TheVariants.{Bool, AbstractInt, AbstractFloat, I32, U32, F32, F16, I64, U64, F64}
-use Rattle.wgsl_syntax.specs.declared.address.AddressSpace.{AddressSpace}
-use Rattle.wgsl_syntax.specs.declared.address.AccessMode.{AccessMode}
-use Rattle.wgsl_syntax.specs.declared.result_struct.ResultFunction.{ResultFunction}
-use Rattle.wgsl_syntax.specs.declared.result_struct.ResultShape.{ResultShape}
-use Rattle.wgsl_syntax.specs.declared.result_struct.ResultPrecision.{ResultPrecision}
+use Rattle.std.proofs.Common.{◌≡◌, ◌≢◌, ℕ, ◌+◌, ◌-◌, ◌<◌, ◌≤◌, ◌↔◌, Some, None, cond, eqb, refl, sym, ◌∙◌, ap, subst, inl, inr, arith}
+use Rattle.wgsl_rules.proofs.Common.{Scalar, Bool, AbstractInt, AbstractFloat, I32, U32, F32, F16, I64, U64, F64, AddressSpace, AccessMode, ResultFunction, ResultShape, ResultPrecision, WgslType, scalar, within, reference, float_of, result_struct, MayRead, Node, at_scalar, at_result, type_at, parent_of, rank_from_root}
 use Rattle.wgsl_syntax.specs.declared.result_struct.ResultPrecision.TheVariants as precision
-use Rattle.wgsl_rules.specs.types.Types.{WgslType, scalar, within, reference}
-use Rattle.wgsl_rules.specs.types.ResultStructs.{float_of, result_struct}
-use Rattle.wgsl_syntax.specs.Address.{MayRead}
 use Rattle.wgsl_rules.specs.conversion.Conversion.{BaseStep, int_to_float, int_to_i32, int_to_u32, int_to_i64, int_to_u64, float_to_f32, float_to_f16, result_to_f32, result_to_f16, Step, base, inside, Path, PathOf, Load, load, load_inside, Converts, ConvertsIn}
-use Rattle.wgsl_rules.specs.internal.Nodes.{Node, at_scalar, at_result, type_at, parent_of, rank_from_root}
 use Rattle.wgsl_rules.proofs.conversion.Steps.{float_depth, depth, depth-result_struct, height, height_small, step_height, function_of, function_of-result_struct, shape_of, shape_of-result_struct, precision_at, IsLeaf, result_leaf}
 use Rattle.wgsl_rules.proofs.conversion.Order.{Above, here, further, above_to_within, along_above}
-use Rattle.wgsl_rules.proofs.conversion.Counts.{counted_above, above_counted, counted_converts}
+use Rattle.wgsl_rules.proofs.conversion.Counts.{counted_above, above_counted}
 
 -- Nodes
 
@@ -125,10 +115,6 @@ step_to_node {t} {u} {w} (base b) p e =
     (k.from, k.begins, ap parent_of m ∙ k.parent, ap rank_from_root m ∙ k.weighs)
 step_to_node (inside l s) p e = absurd (subst IsLeaf (sym e) (node_leaf p))
 
--- no step leads to a node without a parent
-pub no_step_to_root : (p : Node) → parent_of p ≡ None → (t : WgslType) (w : ℕ) → ¬ Step t (type_at p) w
-no_step_to_root p e t w s = let k = step_to_node s p refl in let d : None ≡ Some k.0 = sym e ∙ k.2 in cc d
-
 -- Ancestors
 
 -- the first node is n parents above the second
@@ -140,12 +126,6 @@ pub data Ancestor : Node → Node → ℕ → Type 0 where
 pub ancestor_up : {o p q : Node} {n : ℕ} → parent_of p ≡ Some o → Ancestor p q n → Ancestor o q (n + 1)
 ancestor_up e itself = past itself e
 ancestor_up e (past a f) = past (ancestor_up e a) f
-
-pub ancestor_trans : {p q r : Node} {n m : ℕ} → Ancestor p q n → Ancestor q r m → Ancestor p r (m + n)
-ancestor_trans {p} {q} {n = n} a itself = let e : n ≡ 0 + n = omega arith in subst (λ n. Ancestor p q n) e a
-ancestor_trans {p} {n = n} a (past {r = r} {n = m} b e) =
-    let k : (m + n) + 1 ≡ (m + 1) + n = omega arith in
-    subst (λ n. Ancestor p r n) k (past (ancestor_trans a b) e)
 
 pub ancestor_above : {p q : Node} {n : ℕ} → Ancestor p q n → Above (type_at p) (type_at q)
 ancestor_above itself = here
@@ -162,9 +142,6 @@ ancestor_depth (past {q = q} {r = r} a e) = omega (arith, ancestor_depth a, pare
 pub ancestor_short : {p q : Node} {n : ℕ} → Ancestor p q n → n ≤ 2
 ancestor_short {p} {q} a = omega (arith, ancestor_height a, height_small (type_at q))
 
-pub ancestor_once : {p q : Node} {n m : ℕ} → Ancestor p q n → Ancestor p q m → n ≡ m
-ancestor_once a b = omega (arith, ancestor_height a, ancestor_height b)
-
 -- a type above a node is a node
 pub above_node : {t u : WgslType} → Above t u → (q : Node) → u ≡ type_at q → (p : Node) × (n : ℕ) × (t ≡ type_at p) × Ancestor p q n
 above_node here q e = (q, 0, e, itself)
@@ -179,9 +156,6 @@ above_ancestor p q a =
     (k.1, subst (λ p. Ancestor p q k.1) (sym (type_at_once p k.0 k.2)) k.3)
 
 -- The walk, one parent at a time
-
-pub ancestor_here : {p : Node} {n : ℕ} → Ancestor p p n → n ≡ 0
-ancestor_here a = ancestor_once a itself
 
 pub ancestor_parent : {p q r : Node} {n : ℕ} → p ≢ q → parent_of q ≡ Some r → Ancestor p q n → (m : ℕ) × (n ≡ m + 1) × Ancestor p r m
 ancestor_parent d e itself = absurd (d refl)
@@ -225,34 +199,6 @@ converts_in_ancestor p q w n = (to, back)
     back : Ancestor p q n × (w ≡ rank_from_root q - rank_from_root p) → ConvertsIn (type_at p) (type_at q) w n
     back h = inl (subst (λ w. PathOf (type_at p) (type_at q) w n) (sym h.1) (ancestor_path h.0))
 
--- the walk: a node converts to a different target through the target's parent
-pub converts_in_parent : (p q r : Node) (w n : ℕ) → p ≢ q → parent_of q ≡ Some r →
-    ConvertsIn (type_at p) (type_at q) w n ↔ (v : ℕ) × (m : ℕ) × ConvertsIn (type_at p) (type_at r) v m × (w ≡ v + (rank_from_root q - rank_from_root r)) × (n ≡ m + 1)
-converts_in_parent p q r w n d e = (to, back)
-  where
-    to : ConvertsIn (type_at p) (type_at q) w n → (v : ℕ) × (m : ℕ) × ConvertsIn (type_at p) (type_at r) v m × (w ≡ v + (rank_from_root q - rank_from_root r)) × (n ≡ m + 1)
-    to h =
-        let k = (converts_in_ancestor p q w n).0 h in
-        let m = ancestor_parent d e k.0 in (
-          rank_from_root r - rank_from_root p,
-          m.0,
-          (converts_in_ancestor p r (rank_from_root r - rank_from_root p) m.0).1 (m.2, refl),
-          omega (arith, k.1, ancestor_depth m.2, parent_below q r e),
-          m.1,
-        )
-
-    back : ((v : ℕ) × (m : ℕ) × ConvertsIn (type_at p) (type_at r) v m × (w ≡ v + (rank_from_root q - rank_from_root r)) × (n ≡ m + 1)) → ConvertsIn (type_at p) (type_at q) w n
-    back h =
-        let k = (converts_in_ancestor p r h.0 h.1).0 h.2 in
-        (converts_in_ancestor p q w n).1 (
-          subst (λ n. Ancestor p q n) (sym h.4) (past k.0 e),
-          omega (arith, k.1, h.3, ancestor_depth k.0, parent_below q r e),
-        )
-
--- and not at all to a target without a parent
-pub converts_in_root : (p q : Node) (w n : ℕ) → p ≢ q → parent_of q ≡ None → ¬ ConvertsIn (type_at p) (type_at q) w n
-converts_in_root p q w n d e h = ancestor_root d e ((converts_in_ancestor p q w n).0 h).0
-
 -- Once equal layers are removed
 
 abbrev pub HaveEqualLayers : WgslType → WgslType → Type 0
@@ -277,27 +223,7 @@ pub converts_nodes : (t u : WgslType) (w : ℕ) → ¬ HaveEqualLayers t u → t
 converts_nodes t u w n d m (inl a) = above_nodes (along_above a).0 n d
 converts_nodes t u w n d m (inr h) = absurd (m h.0)
 
-pub converts_in_nodes : (t u : WgslType) (w n : ℕ) → ¬ HaveEqualLayers t u → t ≢ u → ¬ Load t u → ConvertsIn t u w n →
-    (p : Node) × (q : Node) × (t ≡ type_at p) × (u ≡ type_at q)
-converts_in_nodes t u w n e d m h = converts_nodes t u w e d m (counted_converts h)
-
 -- without equal layers, a load is a load of a reference
 pub load_bare : {t u : WgslType} → ¬ HaveEqualLayers t u → Load t u → (s : AddressSpace) × (m : AccessMode) × (t ≡ reference s u m) × MayRead m
 load_bare n (load s t m h) = (s, m, refl, h)
 load_bare n (load_inside l h) = absurd (n refl)
-
--- without equal layers, different types convert by a load, or by a walk between their nodes
-pub converts_in_bare : (t u : WgslType) (w n : ℕ) → ¬ HaveEqualLayers t u → t ≢ u → ConvertsIn t u w n ↔
-    (Load t u × (w ≡ 0) × (n ≡ 0) ⊎ ((p : Node) × (q : Node) × (t ≡ type_at p) × (u ≡ type_at q) × Ancestor p q n × (w ≡ rank_from_root q - rank_from_root p)))
-converts_in_bare t u w n e d = (to, back)
-  where
-    to : ConvertsIn t u w n → Load t u × (w ≡ 0) × (n ≡ 0) ⊎ ((p : Node) × (q : Node) × (t ≡ type_at p) × (u ≡ type_at q) × Ancestor p q n × (w ≡ rank_from_root q - rank_from_root p))
-    to (inl a) =
-        let k = above_nodes (counted_above a).0 e d in
-        let m = (converts_in_ancestor k.0 k.1 w n).0 (inl (subst₂ (λ t u. PathOf t u w n) k.2 k.3 a)) in
-        inr (k.0, k.1, k.2, k.3, m.0, m.1)
-    to (inr h) = inl h
-
-    back : (Load t u × (w ≡ 0) × (n ≡ 0) ⊎ ((p : Node) × (q : Node) × (t ≡ type_at p) × (u ≡ type_at q) × Ancestor p q n × (w ≡ rank_from_root q - rank_from_root p))) → ConvertsIn t u w n
-    back (inl h) = inr h
-    back (inr h) = subst₂ (λ t u. ConvertsIn t u w n) (sym h.2) (sym h.3) ((converts_in_ancestor h.0 h.1 w n).1 (h.4, h.5))

@@ -1,12 +1,7 @@
 -- A matrix is laid out as an array of its columns: the stride of a column is its alignment.
 use Rattle.std.proofs.Common.{◌≡◌, ◌↔◌, ℕ, ◌*◌, ◌<◌, ◌≤◌, ◌^◌, inl, inr, Some, refl, sym, ap, subst, lit<, arith}
-use Rattle.std.proofs.lemmas.Nat.Gcd.{dvd_refl, le_of_dvd}
+use Rattle.wgsl_rules.proofs.Common.{dvd_refl, le_of_dvd, RuleSet, Ported, Standard, Scalar, AbstractInt, AbstractFloat, I32, U32, F32, F16, scalar, array, vec, mat}
 use Rattle.std.proofs.Math.Nat.{mul-pos}
-use Rattle.wgsl_syntax.specs.declared.rules.RuleSet.{RuleSet}
-use Rattle.wgsl_syntax.specs.declared.rules.RuleSet.TheVariants.{Ported, Standard}
-use Rattle.wgsl_syntax.specs.declared.scalar.Scalar.{Scalar}
-use Rattle.wgsl_syntax.specs.declared.scalar.Scalar.TheVariants.{AbstractInt, AbstractFloat, I32, U32, F32, F16}
-use Rattle.wgsl_rules.specs.types.Types.{scalar, array, vec, mat}
 use Rattle.wgsl_rules.specs.layout.Layout.{IsScalarSize, IsTimes, IsRoundedUp, IsStride, IsAlignOfThreeBy, IsVectorAlignBy, HasSizeBy}
 use Rattle.wgsl_rules.proofs.layout.OneSize.{one_times, one_stride, one_vector_align, one_size}
 

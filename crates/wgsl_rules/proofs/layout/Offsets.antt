@@ -1,11 +1,6 @@
 -- The members of a struct at their least offsets, member by member.
-use Rattle.std.proofs.Common.{◌≡◌, ℕ, ◌+◌, ◌<◌, ◌≤◌, ◌^◌, List, [], ◌∷◌, ◌++◌, get_or, Option, refl, sym, ap, subst, ◌∙◌, append_assoc, arith}
-use Rattle.std.specs.Int.{next_multiple_of}
-use Rattle.std.proofs.lemmas.List.{append-nil}
-use Rattle.wgsl_syntax.specs.declared.rules.RuleSet.{RuleSet}
-use Rattle.wgsl_rules.specs.types.Types.{WgslType, Members, no_members, member}
-use Rattle.wgsl_rules.specs.layout.Placement.{MemberLayout, AreLaid}
-use Rattle.wgsl_rules.specs.layout.Layout.{IsGiven, HasSizeBy, HasAlignmentBy, HaveLayoutsBy, IsStructSize, AreOffsetsBy}
+use Rattle.std.proofs.Common.{◌≡◌, ℕ, ◌+◌, ◌<◌, ◌≤◌, ◌^◌, List, [], ◌∷◌, ◌++◌, get_or, Option, refl, sym, ap, subst, ◌∙◌, append_assoc, arith, append-nil}
+use Rattle.wgsl_rules.proofs.Common.{next_multiple_of, RuleSet, WgslType, Members, no_members, member, MemberLayout, AreLaid, IsGiven, HasSizeBy, HasAlignmentBy, HaveLayoutsBy, IsStructSize, AreOffsetsBy}
 use Rattle.wgsl_rules.proofs.layout.Placing.{Aligned, end_of, starts, laid, no_less, no_earlier, next_ge}
 use Rattle.wgsl_rules.proofs.layout.OneSize.{one_layouts}
 use Rattle.wgsl_rules.proofs.layout.StructSizes.{all_aligned}

@@ -1,9 +1,6 @@
 -- A struct has at most one layout: offsets, sizes and alignments of its members, and its own size and alignment.
 use Rattle.std.proofs.Common.{◌≡◌, ℕ, ◌+◌, ◌≤◌, zero, suc, List, [], ◌∷◌, get_or, refl, sym, ap, subst, ◌∙◌, arith}
-use Rattle.wgsl_syntax.specs.declared.rules.RuleSet.{RuleSet}
-use Rattle.wgsl_rules.specs.types.Types.{Members, struct}
-use Rattle.wgsl_rules.specs.layout.Placement.{MemberLayout, AreLaid, IsPlacement}
-use Rattle.wgsl_rules.specs.layout.Layout.{AreOffsetsBy, IsStructLayoutBy}
+use Rattle.wgsl_rules.proofs.Common.{RuleSet, Members, struct, MemberLayout, AreLaid, IsPlacement, AreOffsetsBy, IsStructLayoutBy}
 use Rattle.wgsl_rules.proofs.layout.OneSize.{one_size, one_align, one_layouts}
 
 same_offsets : (ls : List MemberLayout) (xs ys : List ℕ) (d e m n : ℕ) → AreLaid d ls xs m → AreLaid e ls ys n → ((k : ℕ) → get_or xs k 0 ≤ get_or ys k 0)

@@ -1,12 +1,6 @@
 -- A type has at most one size and one alignment.
 use Rattle.std.proofs.Common.{◌≡◌, ℕ, ◌*◌, ◌≤◌, ◌↔◌, inl, inr, List, [], ◌∷◌, Option, Some, None, refl, sym, ap, subst, ◌∙◌, arith}
-use Rattle.wgsl_syntax.specs.declared.rules.RuleSet.{RuleSet}
-use Rattle.wgsl_syntax.specs.declared.rules.RuleSet.TheVariants.{Ported, Standard}
-use Rattle.wgsl_syntax.specs.declared.scalar.Scalar.{Scalar}
-use Rattle.wgsl_syntax.specs.declared.scalar.Scalar.TheVariants.{AbstractInt, AbstractFloat, I32, U32, F32, F16, I64, U64}
-use Rattle.wgsl_rules.specs.types.Types.{WgslType, scalar, struct, atomic, Members, no_members, member, array, vec, mat}
-use Rattle.wgsl_rules.specs.layout.Placement.{MemberLayout, IsLeastTotal, greatest}
-use Rattle.wgsl_rules.specs.Headline.{IsLeastPlacedSize}
+use Rattle.wgsl_rules.proofs.Common.{RuleSet, Ported, Standard, Scalar, AbstractInt, AbstractFloat, I32, U32, F32, F16, I64, U64, WgslType, scalar, struct, atomic, Members, no_members, member, array, vec, mat, MemberLayout, IsLeastTotal, greatest, IsLeastPlacedSize}
 use Rattle.wgsl_rules.specs.layout.Layout.{IsScalarSize, IsAtomicSize, IsTimes, IsRoundedUp, IsStride, IsArraySize, IsAlignOfThreeBy, IsVectorAlignBy, IsGiven, IsStructSize, IsStructAlign, HasSizeBy, HasAlignmentBy, HaveLayouts, HaveLayoutsBy, HaveAlignmentsBy, IsExactly, HasNoSize}
 use Rattle.wgsl_rules.proofs.layout.Placing.{same_least}
 

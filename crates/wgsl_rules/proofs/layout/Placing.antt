@@ -1,9 +1,7 @@
 -- The placement with each member at the first offset that its alignment allows; no placement is smaller.
 use Rattle.std.proofs.Common.{◌≡◌, ℕ, ◌+◌, ◌*◌, ◌-◌, ◌/◌, ◌%◌, ◌<◌, ◌≤◌, zero, suc, List, [], ◌∷◌, get_or, ap, arith, ◌⊎◌, inl, inr, ◌∙◌}
-use Rattle.std.specs.Int.{◌∣◌, next_multiple_of}
-use Rattle.std.proofs.lemmas.Nat.Gcd.{dvd_of_mod-eq-zero, mod-eq-zero_of_dvd}
+use Rattle.wgsl_rules.proofs.Common.{◌∣◌, next_multiple_of, dvd_of_mod-eq-zero, mod-eq-zero_of_dvd, MemberLayout, AreLaid, greatest_align, IsLeastTotal}
 use Rattle.std.proofs.Math.Nat.{mod-lt, div-add-mod, lt_of_mul-lt-mul_left, mul-le-mul_left, mod_self, mod-eq_of_lt, add-mod_right, mul-mod_right, eq-zero-or-pos}
-use Rattle.wgsl_rules.specs.layout.Placement.{MemberLayout, AreLaid, greatest_align, IsLeastTotal}
 
 -- The least multiple
 
@@ -44,9 +42,6 @@ next_least x a m pos d le =
           let up : a * suc (x / a) ≤ a * (m / a) = mul-le-mul_left a fewer in
           omega (arith, h.1, up)
     ]
-
-pub next_mono : (x y a : ℕ) → 0 < a → x ≤ y → next_multiple_of x a ≤ next_multiple_of y a
-next_mono x y a pos le = let h : y ≤ next_multiple_of y a = next_ge y a in next_least x a (next_multiple_of y a) pos (next_dvd y a pos) (omega (arith, h))
 
 -- The first offsets
 

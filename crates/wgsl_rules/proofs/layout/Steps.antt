@@ -1,12 +1,6 @@
 -- One step of a layout: an option that is Some n exactly if a relation holds of n.
-use Rattle.std.proofs.Common.{◌≡◌, ◌≢◌, ◌↔◌, ℕ, ◌<◌, ◌≤◌, ◌^◌, inl, inr, Option, Some, None, refl, sym, ap, subst, ◌∙◌, arith}
-use Rattle.std.specs.Int.{next_multiple_of}
-use Rattle.std.specs.Option.{SomeIff}
-use Rattle.std.proofs.lemmas.Option.{same_Some}
-use Rattle.wgsl_syntax.specs.declared.rules.RuleSet.{RuleSet}
-use Rattle.wgsl_syntax.specs.declared.rules.RuleSet.TheVariants.{Ported, Standard}
-use Rattle.wgsl_syntax.specs.declared.scalar.Scalar.TheVariants.{I32, U32, F32, F16}
-use Rattle.wgsl_rules.specs.types.Types.{WgslType, scalar, struct, array}
+use Rattle.std.proofs.Common.{◌≡◌, ◌≢◌, ◌↔◌, ℕ, ◌<◌, ◌≤◌, ◌^◌, inl, inr, Option, Some, None, refl, sym, ap, subst, ◌∙◌, arith, SomeIff}
+use Rattle.wgsl_rules.proofs.Common.{next_multiple_of, same_Some, RuleSet, Ported, Standard, I32, U32, F32, F16, WgslType, scalar, struct, array}
 use Rattle.wgsl_rules.specs.layout.Layout.{IsTimes, IsRoundedUp, IsStride, IsArraySize, IsAlignOfThreeBy, IsVectorAlignBy, HasSize, HasSizeBy, HasLeastSize, IsExactly, LacksSizeBy}
 use Rattle.wgsl_rules.proofs.layout.Placing.{next_ge, next_dvd, next_least}
 

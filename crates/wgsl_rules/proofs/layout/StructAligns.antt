@@ -1,9 +1,6 @@
 -- The alignment of a struct, member by member.
 use Rattle.std.proofs.Common.{◌≡◌, ℕ, max, List, [], ◌∷◌, map, Option, Some, None, refl, ap, arith}
-use Rattle.std.proofs.lemmas.Option.{same_Some}
-use Rattle.wgsl_syntax.specs.declared.rules.RuleSet.{RuleSet}
-use Rattle.wgsl_rules.specs.types.Types.{WgslType, struct, Members, no_members, member}
-use Rattle.wgsl_rules.specs.layout.Placement.{MemberLayout, greatest}
+use Rattle.wgsl_rules.proofs.Common.{same_Some, RuleSet, WgslType, struct, Members, no_members, member, MemberLayout, greatest}
 use Rattle.wgsl_rules.specs.layout.Layout.{IsGiven, HasAlignmentBy, HaveLayoutsBy, HaveAlignmentsBy, IsStructSize, IsStructAlign, IsExactly}
 use Rattle.wgsl_rules.proofs.layout.OneSize.{one_align, one_given}
 

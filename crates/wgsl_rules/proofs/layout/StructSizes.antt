@@ -1,12 +1,7 @@
 -- The size of a struct, member by member, from the end and the greatest alignment of the members before.
-use Rattle.std.proofs.Common.{◌≡◌, ℕ, ◌+◌, ◌<◌, ◌≤◌, ◌^◌, ◌↔◌, inl, inr, zero, suc, max, List, [], ◌∷◌, length, Option, Some, None, MatchOption, refl, sym, ap, subst, ◌∙◌, arith}
-use Rattle.std.specs.Int.{◌∣◌, next_multiple_of}
-use Rattle.std.specs.List.{All}
+use Rattle.std.proofs.Common.{◌≡◌, ℕ, ◌+◌, ◌<◌, ◌≤◌, ◌^◌, ◌↔◌, inl, inr, zero, suc, max, List, [], ◌∷◌, length, Option, Some, None, MatchOption, refl, sym, ap, subst, ◌∙◌, arith, All}
+use Rattle.wgsl_rules.proofs.Common.{◌∣◌, next_multiple_of, same_Some, RuleSet, WgslType, struct, Members, no_members, member, MemberLayout, AreLaid, greatest_align, IsLeastTotal}
 use Rattle.std.proofs.lemmas.Bool.{cases_lt}
-use Rattle.std.proofs.lemmas.Option.{same_Some}
-use Rattle.wgsl_syntax.specs.declared.rules.RuleSet.{RuleSet}
-use Rattle.wgsl_rules.specs.types.Types.{WgslType, struct, Members, no_members, member}
-use Rattle.wgsl_rules.specs.layout.Placement.{MemberLayout, AreLaid, greatest_align, IsLeastTotal}
 use Rattle.wgsl_rules.specs.layout.Layout.{IsGiven, HasSizeBy, HasAlignmentBy, HaveLayoutsBy, IsRoundedUp, IsStride, IsStructSize, IsExactly, SomeUnknownBy, SomeZeroAlignBy, HasNoSizeBy, unknown, zero_align, empty, too_large}
 use Rattle.wgsl_rules.proofs.layout.Placing.{Aligned, end_of, laid_sooner, laid_before, next_least, least_total}
 use Rattle.wgsl_rules.proofs.layout.OneSize.{one_size, one_align, one_given}

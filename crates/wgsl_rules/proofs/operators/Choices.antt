@@ -1,16 +1,8 @@
 -- Overload resolution for a name: there is a least candidate if any candidate takes the operands, and never two.
 use Rattle.std.proofs.Common.{◌≡◌, ℕ, ◌⊎◌, List, [], ◌∷◌, Some, None, All, refl, sym, ◌∙◌, ap, subst, inl, inr, arith}
-use Rattle.wgsl_syntax.specs.declared.scalar.Scalar.{Scalar}
-use Rattle.wgsl_syntax.specs.declared.scalar.Scalar.TheVariants.{Bool}
-use Rattle.wgsl_rules.specs.types.Types.{vec_of, WgslType, scalar, within, vec, mat}
-use Rattle.wgsl_rules.specs.conversion.Conversion.{IsValueType}
-use Rattle.wgsl_rules.specs.conversion.Common.{IsLeftCommon}
-use Rattle.wgsl_syntax.specs.declared.operator.BinaryOperator.{BinaryOperator}
+use Rattle.wgsl_rules.proofs.Common.{Scalar, Bool, vec_of, WgslType, scalar, within, vec, mat, IsValueType, IsLeftCommon, BinaryOperator, IsInteger, HasRanks, Takes, IsNowhereMore, IsSomewhereLess, IsLeastCandidate, IsChosenAnswer}
 use Rattle.wgsl_syntax.specs.declared.operator.BinaryOperator.TheVariants.{ShortCircuitOr, ShortCircuitAnd, Addition, Subtraction, Multiplication, Division, Remainder, Equality, Inequality, LessThan, LessThanEqual, GreaterThan, GreaterThanEqual, BitwiseOr, BitwiseAnd, BitwiseXor, ShiftLeft, ShiftRight}
 use Rattle.wgsl_rules.specs.operators.Candidates.{Name, operator, min, max, atan2, step, pow, cross, reflect, clamp, fma, smoothstep, face_forward, mix, refract, IsArithmetic, IsSum, IsComparison, IsLogical, IsBitwise, IsOrAnd, IsShift, IsOfTwo, IsOfThree, IsFor, IsMixed, IsCandidate, scalars, vectors, scalar_vector, vector_scalar, matrices, scalar_matrix, matrix_scalar, vector_matrix, matrix_vector, matrix_matrix, compared, compared_vectors, logical, bits, bits_vectors, bools_vectors, shifted, shifted_vectors, of_two, of_three, distances, products, either, each_either, mixed, inserted}
-use Rattle.wgsl_rules.specs.types.Kinds.{IsInteger}
-use Rattle.wgsl_rules.specs.operators.Choice.{HasRanks, Takes, IsNowhereMore, IsSomewhereLess}
-use Rattle.wgsl_rules.specs.Headline.{IsLeastCandidate, IsChosenAnswer}
 use Rattle.wgsl_rules.proofs.operators.Families.{Slot, fill_all, HasOpen, IsPut, IsLeastOf, least_of, none_of, least_of_taken, taken_above, settle}
 use Rattle.wgsl_rules.proofs.operators.FamilyKinds.{Kind, Admits, IsLeastAdmitted, least_admitted, Outer, plain, layer, outer, outers, ranked_outers}
 use Rattle.wgsl_rules.proofs.operators.Forms.{Form, arithmetic, sums, matrix_products, comparisons, shifts, admits_number, admits_float_or_vector, admitted_for, two, three, mixed_form, or_else, form_of}
@@ -124,15 +116,6 @@ belongs (either t k) = record { form = _; at = t; known = refl; operands = refl;
 belongs (each_either n m e) = record { form = _; at = vec n e; known = refl; operands = refl; result = refl; admitted = tt }
 belongs (mixed n h k s f) = record { form = mixed_form n h k; at = scalar s; known = mixed_known n h k k; operands = refl; result = refl; admitted = f }
 belongs (inserted t k) = record { form = _; at = t; known = refl; operands = refl; result = refl; admitted = admits_number t k }
-
--- all candidates that take the operands are of one family
-same_form : (n : Name) (ts us vs : List WgslType) (r s : WgslType) (vs' : List ℕ) (ws : List ℕ) → All IsValueType ts →
-    (a : Belongs n us r) (b : Belongs n vs s) → HasRanks ts us vs' → HasRanks ts vs ws → a.form ≡ b.form
-same_form n ts us vs r s ks ws va a b h k =
-    let eu = ap (λ os. form_of n os) (ranked_outers ts us ks va h) ∙ a.known in
-    let ev = ap (λ os. form_of n os) (ranked_outers ts vs ws va k) ∙ b.known in
-    let e : Some a.form ≡ Some b.form = sym eu ∙ ev in
-    cc e
 
 -- The member of a family at the least type that its kind admits: it takes the operands, and other members that are
 -- admitted and take them have higher ranks.

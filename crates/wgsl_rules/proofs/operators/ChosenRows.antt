@@ -1,19 +1,10 @@
 -- For value types, the row of a binary operator is the least candidate, and a row applies if any candidate takes the
 -- operands.
 use Rattle.std.proofs.Common.{◌≡◌, ℕ, ◌⊎◌, List, [], ◌∷◌, Option, Some, None, All, refl, sym, ◌∙◌, ap, subst, subst₂, inl, inr}
-use Rattle.std.proofs.lemmas.List.Elements.{All-nil, All-cons}
-use Rattle.wgsl_syntax.specs.declared.scalar.Scalar.{Scalar}
-use Rattle.wgsl_syntax.specs.declared.scalar.Scalar.TheVariants.{Bool, U32}
-use Rattle.wgsl_rules.specs.types.Types.{Layer, vec_of, mat_of, WgslType, scalar, within, vec, mat}
-use Rattle.wgsl_rules.specs.conversion.Conversion.{IsValueType, ConvertsTo}
-use Rattle.wgsl_rules.specs.conversion.Common.{IsCommon, of_one_type}
+use Rattle.wgsl_rules.proofs.Common.{All-nil, All-cons, Scalar, Bool, U32, Layer, vec_of, mat_of, WgslType, scalar, within, vec, mat, IsValueType, ConvertsTo, IsCommon, of_one_type, BinaryOperator, IsInteger, IsIntegerOrVector, HasRanks, Takes, IsLeastCandidate}
 use Rattle.wgsl_rules.proofs.conversion.Folds.{left_of_two}
-use Rattle.wgsl_syntax.specs.declared.operator.BinaryOperator.{BinaryOperator}
 use Rattle.wgsl_syntax.specs.declared.operator.BinaryOperator.TheVariants.{ShortCircuitOr, ShortCircuitAnd, Addition, Subtraction, Multiplication, BitwiseOr, BitwiseAnd, BitwiseXor}
 use Rattle.wgsl_rules.specs.operators.Candidates.{Name, operator, IsArithmetic, IsSum, IsComparison, IsLogical, IsBitwise, IsOrAnd, IsShift, IsCandidate, scalars, vectors, scalar_vector, vector_scalar, matrices, scalar_matrix, matrix_scalar, vector_matrix, matrix_vector, matrix_matrix, compared, compared_vectors, logical, bits, bits_vectors, bools_vectors, shifted, shifted_vectors, of_two}
-use Rattle.wgsl_rules.specs.types.Kinds.{IsInteger, IsIntegerOrVector}
-use Rattle.wgsl_rules.specs.operators.Choice.{HasRanks, Takes}
-use Rattle.wgsl_rules.specs.Headline.{IsLeastCandidate}
 use Rattle.wgsl_rules.specs.operators.Rows.{IsRow, scalar_row, vector_row, scalar_vector_row, vector_scalar_row, matrix_row, scalar_matrix_row, matrix_scalar_row, vector_matrix_row, matrix_vector_row, matrix_matrix_row, comparison_row, comparison_vector_row, logical_row, bools_row, bit_row, shift_row, shift_vector_row}
 use Rattle.wgsl_rules.proofs.conversion.Order.{Above, here, above_inside, above_to_within, above_from_within, above_converts, value_converts}
 use Rattle.wgsl_rules.proofs.conversion.Commons.{value_above, common_join, no_common, some_common, common_symmetric}

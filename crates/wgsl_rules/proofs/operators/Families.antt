@@ -1,13 +1,7 @@
 -- A family of candidates: each operand type is built from one type c. The least candidate of a family is at the least
 -- common type of what the operands put for c.
 use Rattle.std.proofs.Common.{◌≡◌, ◌≢◌, ℕ, ◌<◌, ◌≤◌, ◌⊎◌, List, [], ◌∷◌, Option, Some, None, All, refl, sym, ◌∙◌, subst, inl, inr, arith, le_refl}
-use Rattle.std.proofs.lemmas.List.Elements.{All-nil, All-cons}
-use native.Mathlib.Decide.{ℕ_discrete}
-use Rattle.wgsl_rules.specs.types.Types.{Layer, WgslType, within}
-use Rattle.wgsl_rules.specs.conversion.Conversion.{IsValueType, ConvertsTo}
-use Rattle.wgsl_rules.specs.conversion.Common.{IsLeftCommon}
-use Rattle.wgsl_rules.specs.Headline.{Receives}
-use Rattle.wgsl_rules.specs.operators.Choice.{HasRanks, Takes, IsNowhereMore, IsSomewhereLess}
+use Rattle.wgsl_rules.proofs.Common.{All-nil, All-cons, ℕ_discrete, Layer, WgslType, within, IsValueType, ConvertsTo, IsLeftCommon, Receives, HasRanks, Takes, IsNowhereMore, IsSomewhereLess}
 use Rattle.wgsl_rules.proofs.conversion.Steps.{depth}
 use Rattle.wgsl_rules.proofs.conversion.Order.{Above, above_depth, above_level, above_converts, above_trans, above_values, above_inside, above_to_within, value_converts}
 use Rattle.wgsl_rules.proofs.conversion.Commons.{value_above, receives_nil, receives_cons, receives_head, receives_tail, values_head, values_tail, some_left_common, left_common_least, left_common_none}
@@ -42,9 +36,6 @@ HasOpen (fixed t ∷ ss) = HasOpen ss
 HasOpen (s ∷ ss) = Unit {0}
 
 -- a member of the family takes ts exactly if the types that they put convert to c
-
-put_fixed : (u : WgslType) (ss : List Slot) (t : WgslType) (ts : List WgslType) (es : List WgslType) → ConvertsTo t u → IsPut ss ts es → IsPut (fixed u ∷ ss) (t ∷ ts) es
-put_fixed u ss t ts es h k = (h, k)
 
 pub record Puts (ss : List Slot) (ts : List WgslType) (c : WgslType) : Type 0 where
   pub types : List WgslType

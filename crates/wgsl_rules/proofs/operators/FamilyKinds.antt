@@ -1,17 +1,9 @@
 -- The types that a family admits, and the outer layers of operands.
 use Rattle.std.proofs.Common.{◌≡◌, ℕ, ◌⊎◌, ◌↔◌, List, [], ◌∷◌, All, refl, sym, ap, subst, ◌∙◌, inl, inr, arith}
-use Rattle.wgsl_syntax.specs.declared.scalar.Scalar.{Scalar}
-use Rattle.wgsl_syntax.specs.declared.scalar.Scalar.TheVariants.{Bool, AbstractInt, AbstractFloat, I32, U32, I64, U64, F32, F16}
-use Rattle.wgsl_syntax.specs.declared.result_struct.ResultFunction.{ResultFunction}
-use Rattle.wgsl_syntax.specs.declared.result_struct.ResultShape.{ResultShape}
-use Rattle.wgsl_syntax.specs.declared.result_struct.ResultPrecision.{ResultPrecision}
+use Rattle.wgsl_rules.proofs.Common.{Scalar, Bool, AbstractInt, AbstractFloat, I32, U32, I64, U64, F32, F16, ResultFunction, ResultShape, ResultPrecision, Layer, vec_of, WgslType, scalar, within, result_struct, IsInteger, IsFloat, IsNumeric, IsScalarOrVector, HasRanks}
 use Rattle.wgsl_syntax.specs.declared.result_struct.ResultPrecision.TheVariants as precision
-use Rattle.wgsl_rules.specs.types.Types.{Layer, vec_of, WgslType, scalar, within}
-use Rattle.wgsl_rules.specs.types.ResultStructs.{result_struct}
 use Rattle.wgsl_rules.specs.conversion.Conversion.{BaseStep, int_to_float, int_to_i32, int_to_u32, int_to_i64, int_to_u64, float_to_f32, float_to_f16, result_to_f32, result_to_f16, Step, base, inside, IsValueType}
-use Rattle.wgsl_rules.specs.types.Kinds.{IsInteger, IsFloat, IsNumeric, IsScalarOrVector}
 use Rattle.wgsl_rules.proofs.conversion.Steps.{depth}
-use Rattle.wgsl_rules.specs.operators.Choice.{HasRanks}
 use Rattle.wgsl_rules.proofs.conversion.Order.{Above, here, further, above_level, above_inside, above_to_within, above_from_within, value_converts}
 use Rattle.wgsl_rules.proofs.conversion.Commons.{values_head, values_tail}
 

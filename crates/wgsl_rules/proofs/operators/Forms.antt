@@ -1,14 +1,8 @@
 -- The candidates of a name are families; the outer layers of the operands determine the family that can take them.
 use Rattle.std.proofs.Common.{ℕ, List, [], ◌∷◌, Option, Some, None, inl, inr}
-use Rattle.wgsl_syntax.specs.declared.scalar.Scalar.{Scalar}
-use Rattle.wgsl_syntax.specs.declared.scalar.Scalar.TheVariants.{Bool, U32}
-use Rattle.wgsl_rules.specs.types.Types.{vec_of, mat_of, WgslType, scalar, within, vec, mat}
-use Rattle.wgsl_syntax.specs.declared.operator.BinaryOperator.{BinaryOperator}
+use Rattle.wgsl_rules.proofs.Common.{Scalar, Bool, U32, vec_of, mat_of, WgslType, scalar, within, vec, mat, BinaryOperator, IsInteger, IsNumericOrVector, IsFloatOrVector, IsFloatVector, inner_of, concretized}
 use Rattle.wgsl_syntax.specs.declared.operator.BinaryOperator.TheVariants.{ShortCircuitOr, ShortCircuitAnd, Addition, Subtraction, Multiplication, Division, Remainder, Equality, Inequality, LessThan, LessThanEqual, GreaterThan, GreaterThanEqual, BitwiseOr, BitwiseAnd, BitwiseXor, ShiftLeft, ShiftRight}
 use Rattle.wgsl_rules.specs.operators.Candidates.{Name, operator, min, max, atan2, step, pow, cross, reflect, distance, dot, clamp, fma, smoothstep, face_forward, mix, refract, select, insert_bits, IsArithmetic, IsSum, IsComparison, IsLogical, IsBitwise, IsOrAnd, IsShift, IsOfTwo, IsOfThree, IsFor, IsMixed, IsCandidate, scalars, vectors, scalar_vector, vector_scalar, matrices, scalar_matrix, matrix_scalar, vector_matrix, matrix_vector, matrix_matrix, compared, compared_vectors, logical, bits, bits_vectors, bools_vectors, shifted, shifted_vectors, of_two, of_three, distances, products, either, each_either, mixed, inserted}
-use Rattle.wgsl_rules.specs.types.Kinds.{IsInteger, IsNumericOrVector, IsFloatOrVector, IsFloatVector}
-use Rattle.wgsl_rules.specs.types.Inner.{inner_of}
-use Rattle.wgsl_rules.specs.conversion.Concrete.{concretized}
 use Rattle.wgsl_rules.proofs.operators.Families.{Slot, whole, inner, fixed, fill_all, HasOpen}
 use Rattle.wgsl_rules.proofs.operators.FamilyKinds.{Admits, IsBool, Kind, Outer, a_bool, a_float, a_number, an_integer, an_integer_or_bool, any_scalar, any_type, layer, no_type, or_vector, plain, scalar_or_vector, vector_of}
 

@@ -1,13 +1,7 @@
 -- The groups of binary operators, and what the rows of each group take.
 use Rattle.std.proofs.Common.{◌≡◌, ℕ, ◌⊎◌, Some, refl, sym, ◌∙◌, subst, inl, inr}
-use Rattle.wgsl_syntax.specs.declared.scalar.Scalar.TheVariants.{Bool, U32}
-use Rattle.wgsl_syntax.specs.declared.operator.BinaryOperator.{BinaryOperator}
+use Rattle.wgsl_rules.proofs.Common.{Bool, U32, BinaryOperator, vec_of, mat_of, WgslType, scalar, within, vec, IsInteger, IsIntegerOrVector, IsScalar, IsVector, ConvertsTo, IsCommon, IsArithmetic, IsSum, IsComparison, IsLogical, IsBitwise, IsOrAnd, IsShift}
 use Rattle.wgsl_syntax.specs.declared.operator.BinaryOperator.TheVariants.{ShortCircuitOr, ShortCircuitAnd, Addition, Subtraction, Multiplication, Division, Remainder, Equality, Inequality, LessThan, LessThanEqual, GreaterThan, GreaterThanEqual, BitwiseOr, BitwiseAnd, BitwiseXor, ShiftLeft, ShiftRight}
-use Rattle.wgsl_rules.specs.types.Types.{vec_of, mat_of, WgslType, scalar, within, vec}
-use Rattle.wgsl_rules.specs.types.Kinds.{IsInteger, IsIntegerOrVector, IsScalar, IsVector}
-use Rattle.wgsl_rules.specs.conversion.Conversion.{ConvertsTo}
-use Rattle.wgsl_rules.specs.conversion.Common.{IsCommon}
-use Rattle.wgsl_rules.specs.operators.Candidates.{IsArithmetic, IsSum, IsComparison, IsLogical, IsBitwise, IsOrAnd, IsShift}
 use Rattle.wgsl_rules.specs.operators.Rows.{IsRow, scalar_row, vector_row, scalar_vector_row, vector_scalar_row, matrix_row, scalar_matrix_row, matrix_scalar_row, vector_matrix_row, matrix_vector_row, matrix_matrix_row, comparison_row, comparison_vector_row, logical_row, bools_row, bit_row, shift_row, shift_vector_row}
 
 pub data Group : Type 0 where

@@ -1,13 +1,7 @@
 -- An operator has at most one answer, whatever its operands.
 use Rattle.std.proofs.Common.{◌≡◌, Some, Result, Ok, Err, refl, sym, ap, subst, ◌∙◌}
-use Rattle.wgsl_syntax.specs.declared.scalar.Scalar.TheVariants.{Bool}
-use Rattle.wgsl_syntax.specs.declared.operator.BinaryOperator.{BinaryOperator}
+use Rattle.wgsl_rules.proofs.Common.{Bool, BinaryOperator, AddressOf, Indirection, vec_of, mat_of, WgslType, scalar, within, pointer, reference, vec, mat, IsCommon, Refusal, IsOperatorAnswer, IsUnaryAnswer}
 use Rattle.wgsl_syntax.specs.declared.operator.UnaryOperator.{UnaryOperator}
-use Rattle.wgsl_syntax.specs.declared.operator.UnaryOperator.TheVariants.{AddressOf, Indirection}
-use Rattle.wgsl_rules.specs.types.Types.{vec_of, mat_of, WgslType, scalar, within, pointer, reference, vec, mat}
-use Rattle.wgsl_rules.specs.conversion.Common.{IsCommon}
-use Rattle.wgsl_rules.specs.errors.Refusals.{Refusal}
-use Rattle.wgsl_rules.specs.operators.Answers.{IsOperatorAnswer, IsUnaryAnswer}
 use Rattle.wgsl_rules.specs.operators.Rows.{IsRow, scalar_row, vector_row, scalar_vector_row, vector_scalar_row, matrix_row, scalar_matrix_row, matrix_scalar_row, vector_matrix_row, matrix_vector_row, matrix_matrix_row, comparison_row, comparison_vector_row, logical_row, bools_row, bit_row, shift_row, shift_vector_row}
 use Rattle.wgsl_rules.specs.operators.UnaryRows.{IsUnaryRow, not_row, not_vector_row, negation_row, complement_row, address_row, indirection_row}
 use Rattle.wgsl_rules.proofs.conversion.Commons.{common_once}

@@ -1,15 +1,7 @@
 -- The rows of a binary operator by the kind of its operands, and what they return for value types.
 use Rattle.std.proofs.Common.{◌≡◌, ℕ, ◌⊎◌, [], ◌∷◌, Some, None, sym, subst, inl, inr}
-use Rattle.wgsl_syntax.specs.declared.scalar.Scalar.TheVariants.{Bool}
-use Rattle.wgsl_syntax.specs.declared.operator.BinaryOperator.{BinaryOperator}
-use Rattle.wgsl_rules.specs.types.Types.{WgslType, scalar, vec}
-use Rattle.wgsl_rules.specs.types.Kinds.{IsIntegerOrVector, IsScalar, IsVector, IsLeaf}
-use Rattle.wgsl_rules.specs.conversion.Conversion.{IsValueType}
-use Rattle.wgsl_rules.specs.conversion.Common.{IsCommon}
-use Rattle.wgsl_rules.specs.operators.Candidates.{operator, IsArithmetic, IsComparison, IsLogical, IsBitwise, IsOrAnd, IsShift}
-use Rattle.wgsl_rules.specs.Headline.{IsLeastCandidate, IsChosenAnswer}
+use Rattle.wgsl_rules.proofs.Common.{Bool, BinaryOperator, WgslType, scalar, vec, IsIntegerOrVector, IsScalar, IsVector, IsLeaf, IsValueType, IsCommon, operator, IsArithmetic, IsComparison, IsLogical, IsBitwise, IsOrAnd, IsShift, IsLeastCandidate, IsChosenAnswer, BinaryCandidate, HasCandidate}
 use Rattle.wgsl_rules.specs.operators.Rows.{IsRow, scalar_row, vector_row, scalar_vector_row, vector_scalar_row, matrix_row, scalar_matrix_row, matrix_scalar_row, vector_matrix_row, matrix_vector_row, matrix_matrix_row, comparison_row, comparison_vector_row, logical_row, bools_row, bit_row, shift_row, shift_vector_row}
-use Rattle.wgsl_rules.specs.operators.Answers.{BinaryCandidate, HasCandidate}
 use Rattle.wgsl_rules.proofs.conversion.Commons.{common_once}
 use Rattle.wgsl_rules.proofs.operators.Groups.{elements, Fits, IsShifted, arithmetic_needs, comparison_needs, logical_needs, bits_needs, shift_needs}
 use Rattle.wgsl_rules.proofs.operators.Choices.{chosen_answer, refused_answer}

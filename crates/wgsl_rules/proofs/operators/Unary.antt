@@ -1,16 +1,7 @@
 -- The rows of the unary operators, by the kind of the operand.
 use Rattle.std.proofs.Common.{◌≡◌, ◌⊎◌, Ok, Err, refl, sym, subst, inl, inr}
-use Rattle.wgsl_syntax.specs.declared.scalar.Scalar.TheVariants.{Bool}
-use Rattle.wgsl_syntax.specs.declared.address.AddressSpace.{AddressSpace}
-use Rattle.wgsl_syntax.specs.declared.address.AddressSpace.TheVariants.{Handle}
-use Rattle.wgsl_syntax.specs.declared.address.AccessMode.{AccessMode}
-use Rattle.wgsl_syntax.specs.declared.operator.UnaryOperator.TheVariants.{LogicalNegation, Negation, BitwiseComplement, AddressOf, Indirection}
-use Rattle.wgsl_rules.specs.types.Types.{vec_of, WgslType, scalar, within, pointer, reference}
-use Rattle.wgsl_rules.specs.types.Kinds.{IsScalar, IsVector, IsIntegerOrVector}
-use Rattle.wgsl_rules.specs.conversion.Loading.{IsReference}
-use Rattle.wgsl_rules.specs.errors.Refusals.{unary}
+use Rattle.wgsl_rules.proofs.Common.{Bool, AddressSpace, Handle, AccessMode, LogicalNegation, Negation, BitwiseComplement, AddressOf, Indirection, vec_of, WgslType, scalar, within, pointer, reference, IsScalar, IsVector, IsIntegerOrVector, IsReference, unary, IsUnaryAnswer}
 use Rattle.wgsl_rules.specs.operators.UnaryRows.{IsUnaryRow, unary_refusal, not_row, not_vector_row, negation_row, complement_row, address_row, indirection_row}
-use Rattle.wgsl_rules.specs.operators.Answers.{IsUnaryAnswer}
 
 abbrev pub IsNegated : WgslType → Type 0
 IsNegated t = (t ≡ scalar Bool) ⊎ IsVector t

@@ -1,11 +1,6 @@
 -- A template of one type has at most one answer: that of a vector, of a matrix and of `bitcast`.
 use Rattle.std.proofs.Common.{◌≡◌, ℕ, List, [], ◌∷◌, Result, Ok, Err, codes, sym, ap, ◌∙◌}
-use Rattle.wgsl_rules.specs.types.Types.{WgslType}
-use Rattle.wgsl_rules.specs.types.Kinds.{IsScalar, IsFloatScalar, IsNumericOrVector}
-use Rattle.wgsl_rules.specs.types.Signatures.{Parameter, of_type}
-use Rattle.wgsl_rules.specs.conversion.Concrete.{IsAbstract}
-use Rattle.wgsl_rules.specs.errors.Refusals.{Refusal}
-use Rattle.wgsl_rules.specs.templates.Templates.{IsTemplateOf, IsVecTemplate, IsMatTemplate, IsBitcastTemplate}
+use Rattle.wgsl_rules.proofs.Common.{WgslType, IsScalar, IsFloatScalar, IsNumericOrVector, Parameter, of_type, IsAbstract, Refusal, IsTemplateOf, IsVecTemplate, IsMatTemplate, IsBitcastTemplate}
 
 template_once : (P : WgslType → Type 0) (name message : List ℕ) (ps : List Parameter) (r s : Result WgslType Refusal)
     → IsTemplateOf P name message ps r → IsTemplateOf P name message ps s → r ≡ s

@@ -1,8 +1,5 @@
-use Rattle.std.proofs.Common.{subst, refl}
-use Rattle.std.specs.Prelude.{option_map}
-use Rattle.wgsl_rules.specs.standard.Choice.{IsChosen}
-use Rattle.wgsl_standard.specs.Operands.{operands_view}
-use Rattle.wgsl_standard.specs.internal.Choices.{choice_view}
+use Rattle.std.proofs.Common.{subst, refl, option_map}
+use Rattle.wgsl_standard.proofs.Common.{IsChosen, operands_view, choice_view}
 use Rattle.wgsl_standard.proofs.StandardAnswers.{answer_at, answer_none}
 use Rattle.wgsl_standard.proofs.answer.chosen.Goals as goal
 

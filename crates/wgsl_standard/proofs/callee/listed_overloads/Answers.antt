@@ -1,5 +1,4 @@
-use Rattle.std.proofs.Common.{subst, sym}
-use Rattle.std.specs.Prelude.{Some, option_map}
+use Rattle.std.proofs.Common.{subst, sym, Some, option_map}
 use Rattle.wgsl_standard.specs.Callees.{callee_view}
 use Rattle.wgsl_standard.proofs.NamedTables.{IfTable, few, listed_table}
 use Rattle.wgsl_standard.proofs.callee.listed_overloads.Goals as goal

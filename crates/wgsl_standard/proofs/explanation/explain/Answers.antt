@@ -1,7 +1,5 @@
 use Rattle.std.proofs.Common.{◌≡◌, ◌∙◌, ap, sym, subst, IfOk, map, option_map, true}
-use Rattle.wgsl_core.specs.View.{view}
-use Rattle.wgsl_standard.specs.Explained.{note_view}
-use Rattle.wgsl_standard.specs.Texts.{line_with, note_line, note_text, types_given}
+use Rattle.wgsl_standard.proofs.Common.{view, note_view, line_with, note_line, note_text, types_given}
 use Rattle.wgsl_standard.proofs.explanation.explain.Goals as goal
 
 pub returns-in_ok-all-in-Some-clause-texts : goal.returns-in_ok-all-in-Some-clause-texts

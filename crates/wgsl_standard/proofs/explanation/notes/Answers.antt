@@ -1,12 +1,5 @@
-use Rattle.std.proofs.Common.{◌≡◌, ◌∙◌, ◌-◌, ◌<◌, ◌≤◌, [], ap, arith, length, map, refl, subst, sym, take}
-use Rattle.std.specs.Prelude.{All}
-use Rattle.std.proofs.lemmas.List.{drop_all, take_all}
-use Rattle.std.proofs.lemmas.List.Elements.{All-nil}
-use Rattle.wgsl_standard.specs.Callees.{callee_view}
-use Rattle.wgsl_standard.specs.Explained.{note_view, AreNotes, no_overloads}
-use Rattle.wgsl_standard.specs.Lines.{NoteStandsAtIndex, lines_before}
-use Rattle.wgsl_standard.specs.Operands.{operands_view}
-use Rattle.wgsl_standard.specs.Texts.{line_with, note_text, types_given}
+use Rattle.std.proofs.Common.{◌≡◌, ◌∙◌, ◌-◌, ◌<◌, ◌≤◌, [], ap, arith, length, map, refl, subst, sym, take, All, take_all}
+use Rattle.wgsl_standard.proofs.Common.{drop_all, All-nil, callee_view, note_view, AreNotes, no_overloads, NoteStandsAtIndex, lines_before, operands_view, line_with, note_text, types_given}
 use Rattle.wgsl_standard.proofs.CountedLines.{first_line, from_last, lines_without}
 use Rattle.wgsl_standard.proofs.explanation.notes.Goals as goal
 

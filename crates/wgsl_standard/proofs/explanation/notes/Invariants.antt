@@ -1,10 +1,5 @@
-use Rattle.std.proofs.Common.{◌≡◌, drop, length, map, take}
-use Rattle.std.specs.Prelude.{All}
-use Rattle.wgsl_standard.specs.Callees.{callee_view}
-use Rattle.wgsl_standard.specs.Operands.{operands_view}
-use Rattle.wgsl_standard.specs.Explained.{note_view, AreNotes}
-use Rattle.wgsl_standard.specs.Lines.{NoteStandsAtIndex, lines_before}
-use Rattle.wgsl_standard.specs.Texts.{line_with, note_text, types_given}
+use Rattle.std.proofs.Common.{◌≡◌, drop, length, map, take, All}
+use Rattle.wgsl_standard.proofs.Common.{callee_view, operands_view, note_view, AreNotes, NoteStandsAtIndex, lines_before, line_with, note_text, types_given}
 use Rattle.wgsl_standard.proofs.explanation.notes.Given as goal
 
 abbrev pub invariant-loop-index : goal.invariant-loop-index

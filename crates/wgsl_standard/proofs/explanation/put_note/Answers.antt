@@ -1,12 +1,6 @@
 use Rattle.std.proofs.Common.{◌∙◌, ap, arith, length, sym}
-use Rattle.std.specs.List.{prefix_len}
-use Rattle.std.proofs.lemmas.List.{length-map}
+use Rattle.wgsl_standard.proofs.Common.{prefix_len, length-map, note_view, taken, NoteStandsAtIndex, is_nearer, operands_view, line_with, note_text, types_given}
 use Rattle.std.proofs.lemmas.List.Sums.{prefix_len-le-length}
-use Rattle.wgsl_standard.specs.Explained.{note_view, taken}
-use Rattle.wgsl_standard.specs.Lines.{NoteStandsAtIndex}
-use Rattle.wgsl_standard.specs.Mismatches.{is_nearer}
-use Rattle.wgsl_standard.specs.Operands.{operands_view}
-use Rattle.wgsl_standard.specs.Texts.{line_with, note_text, types_given}
 use Rattle.wgsl_standard.proofs.Noted.{all_inserted, note_put, texts_inserted}
 use Rattle.wgsl_standard.proofs.explanation.put_note.Goals as goal
 

@@ -1,8 +1,6 @@
 use Rattle.std.proofs.Common.{sym, ◌∙◌}
-use Rattle.std.proofs.lemmas.List.{length-map}
-use Rattle.wgsl_rules.specs.standard.Overloads.{in_order}
+use Rattle.wgsl_standard.proofs.Common.{length-map, in_order, operand_view, operands_view}
 use Rattle.wgsl_standard.proofs.Lengths.{as_many, unequal_lengths}
-use Rattle.wgsl_standard.specs.Operands.{operand_view, operands_view}
 use Rattle.wgsl_standard.proofs.fitting.bind_all.Goals as goal
 
 pub returns-then-parameter_count-operands : goal.returns-then-parameter_count-operands

@@ -1,8 +1,5 @@
 use Rattle.std.proofs.Common.{◌≤◌, ◌∙◌, ap, arith, length, subst, sym}
-use Rattle.std.proofs.lemmas.List.{length-map, length-replicate}
-use Rattle.wgsl_rules.specs.standard.Overloads.{in_order}
-use Rattle.wgsl_standard.specs.internal.Binding.{bind_first, bind_if}
-use Rattle.wgsl_standard.specs.Operands.{operand_view, operands_view}
+use Rattle.wgsl_standard.proofs.Common.{length-map, length-replicate, in_order, bind_first, bind_if, operand_view, operands_view}
 use Rattle.wgsl_standard.proofs.Lengths.{same_first, then_same_first}
 use Rattle.wgsl_standard.proofs.fitting.bind_each.Goals as goal
 

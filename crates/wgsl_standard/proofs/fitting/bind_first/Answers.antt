@@ -1,8 +1,6 @@
 use Rattle.std.proofs.Common.{arith, sym}
-use Rattle.std.proofs.lemmas.List.{length-map}
-use Rattle.wgsl_rules.specs.standard.Overloads.{in_order}
+use Rattle.wgsl_standard.proofs.Common.{length-map, in_order, operand_view, operands_view}
 use Rattle.wgsl_standard.proofs.Lengths.{too_many}
-use Rattle.wgsl_standard.specs.Operands.{operand_view, operands_view}
 use Rattle.wgsl_standard.proofs.fitting.bind_first.Goals as goal
 
 pub returns-then-operands-parameter_count : goal.returns-then-operands-parameter_count

@@ -1,6 +1,5 @@
 use Rattle.std.proofs.Common.{◌∙◌, ap, arith, sym}
-use Rattle.wgsl_rules.specs.standard.Overloads.{in_order}
-use Rattle.wgsl_standard.specs.internal.Binding.{bind_if}
+use Rattle.wgsl_standard.proofs.Common.{in_order, bind_if}
 use Rattle.wgsl_standard.proofs.Lengths.{one_more_bound}
 use Rattle.wgsl_standard.proofs.Listed.{listed_at, operand_at, pattern_there}
 use Rattle.wgsl_standard.proofs.fitting.bind_listed.Goals as goal

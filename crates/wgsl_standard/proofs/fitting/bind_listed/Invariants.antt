@@ -1,7 +1,5 @@
 use Rattle.std.proofs.Common.{◌≡◌, drop}
-use Rattle.wgsl_rules.specs.standard.Overloads.{in_order}
-use Rattle.wgsl_standard.specs.internal.Binding.{bind_first}
-use Rattle.wgsl_standard.specs.Operands.{operands_view}
+use Rattle.wgsl_standard.proofs.Common.{in_order, bind_first, operands_view}
 use Rattle.wgsl_standard.proofs.fitting.bind_listed.Given as goal
 
 abbrev pub invariant-loop-index : goal.invariant-loop-index

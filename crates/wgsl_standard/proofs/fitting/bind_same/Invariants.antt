@@ -1,6 +1,5 @@
 use Rattle.std.proofs.Common.{◌≡◌, drop}
-use Rattle.wgsl_standard.specs.internal.Binding.{bind_same}
-use Rattle.wgsl_standard.specs.Operands.{operands_view}
+use Rattle.wgsl_standard.proofs.Common.{bind_same, operands_view}
 use Rattle.wgsl_standard.proofs.fitting.bind_same.Given as goal
 
 abbrev pub invariant-loop-operand : goal.invariant-loop-operand

@@ -1,8 +1,5 @@
-use Rattle.std.proofs.Common.{◌≡◌, drop, map}
-use Rattle.std.specs.List.{fold}
-use Rattle.wgsl_syntax.specs.Nearest.{nearest_view, offered}
-use Rattle.wgsl_rules.specs.standard.Names.{names_of}
-use Rattle.wgsl_standard.specs.internal.Rows.{function_of}
+use Rattle.std.proofs.Common.{◌≡◌, drop, map, fold}
+use Rattle.wgsl_standard.proofs.Common.{nearest_view, offered, names_of, function_of}
 use Rattle.wgsl_standard.proofs.meant.among_functions.Given as goal
 
 abbrev pub invariant-loop-name : goal.invariant-loop-name

@@ -1,8 +1,5 @@
 use Rattle.std.proofs.Common.{arith, sym, ◌∙◌, true≢false}
-use Rattle.std.proofs.lemmas.Slice.Eq.{bytes_eq-Decides}
-use Rattle.wgsl_standard.specs.internal.Rows.{evaluation_of, function_of}
-use Rattle.wgsl_rules.specs.standard.Names.{function_table}
-use Rattle.wgsl_rules.specs.standard.Evaluation.{evaluation_table}
+use Rattle.wgsl_standard.proofs.Common.{bytes_eq-Decides, evaluation_of, function_of, function_table, evaluation_table}
 use Rattle.wgsl_standard.proofs.Search.{found, not_found}
 use Rattle.wgsl_standard.proofs.names.find_row.Goals as goal
 use Rattle.wgsl_standard.proofs.names.find_row.Goals.{else-index-functions-via-then-index-functions+else-eq, else-index-functions-via-else-index-functions}

@@ -1,6 +1,5 @@
 use Rattle.std.proofs.Common.{refl}
-use Rattle.wgsl_rules.specs.standard.Names.{function_table}
-use Rattle.wgsl_rules.specs.standard.Evaluation.{evaluation_table}
+use Rattle.wgsl_standard.proofs.Common.{function_table, evaluation_table}
 use Rattle.wgsl_standard.proofs.names.places.Goals as goal
 
 pub returns-clause-functions : goal.returns-clause-functions

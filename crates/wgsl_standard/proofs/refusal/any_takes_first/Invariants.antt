@@ -1,6 +1,5 @@
 use Rattle.std.proofs.Common.{◌≡◌, drop}
-use Rattle.wgsl_standard.specs.internal.Binding.{some_takes_first}
-use Rattle.wgsl_standard.specs.Operands.{operands_view}
+use Rattle.wgsl_standard.proofs.Common.{some_takes_first, operands_view}
 use Rattle.wgsl_standard.proofs.refusal.any_takes_first.Given as goal
 
 abbrev pub invariant-loop-overload : goal.invariant-loop-overload

@@ -1,7 +1,5 @@
 use Rattle.std.proofs.Common.{◌+◌, ◌∙◌, take, arith, sym, subst, true≢false}
-use native.Mathlib.Decide.{ℕ_discrete}
-use Rattle.wgsl_rules.specs.standard.Refusal.{SomeTakesFirst}
-use Rattle.wgsl_standard.specs.Operands.{operand_view, operands_view}
+use Rattle.wgsl_standard.proofs.Common.{ℕ_discrete, SomeTakesFirst, operand_view, operands_view}
 use Rattle.wgsl_standard.proofs.FirstParameters.{refused_seen}
 use Rattle.wgsl_standard.proofs.refusal.refused_at.Goals as goal
 

@@ -1,6 +1,5 @@
 use Rattle.std.proofs.Common.{ℕ, ◌<◌, ◌+◌, take}
-use Rattle.wgsl_rules.specs.standard.Refusal.{SomeTakesFirst}
-use Rattle.wgsl_standard.specs.Operands.{operands_view}
+use Rattle.wgsl_standard.proofs.Common.{SomeTakesFirst, operands_view}
 use Rattle.wgsl_standard.proofs.refusal.refused_at.Given as goal
 
 abbrev pub invariant-loop-n : goal.invariant-loop-n

@@ -1,7 +1,5 @@
-use Rattle.std.proofs.Common.{◌≡◌, ◌+◌, drop}
-use Rattle.std.specs.Prelude.{option_map}
-use Rattle.wgsl_standard.specs.internal.Binding.{first_of}
-use Rattle.wgsl_standard.specs.Operands.{operands_view}
+use Rattle.std.proofs.Common.{◌≡◌, ◌+◌, drop, option_map}
+use Rattle.wgsl_standard.proofs.Common.{first_of, operands_view}
 use Rattle.wgsl_standard.proofs.resolve.first_of.Given as goal
 
 abbrev pub invariant-loop-index : goal.invariant-loop-index

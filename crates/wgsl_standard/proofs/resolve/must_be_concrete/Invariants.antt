@@ -1,6 +1,5 @@
 use Rattle.std.proofs.Common.{◌≡◌, drop}
-use Rattle.wgsl_standard.specs.internal.Binding.{must_be_concrete}
-use Rattle.wgsl_standard.specs.Operands.{operands_view}
+use Rattle.wgsl_standard.proofs.Common.{must_be_concrete, operands_view}
 use Rattle.wgsl_standard.proofs.resolve.must_be_concrete.Given as goal
 
 abbrev pub invariant-loop-operand : goal.invariant-loop-operand

@@ -1,16 +1,7 @@
-use Rattle.std.proofs.Common.{◌≡◌, ◌+◌, List, [], ◌∷◌, ◌++◌, drop, length, sym, ◌∙◌, ap, refl, arith, append_assoc, rules}
-use native.Mathlib.Decide.{dec_lt}
-use Rattle.std.proofs.lemmas.List.{append-nil, map-append}
+use Rattle.std.proofs.Common.{◌≡◌, ◌+◌, List, [], ◌∷◌, ◌++◌, drop, length, sym, ◌∙◌, ap, refl, arith, append_assoc, rules, append-nil, map}
+use Rattle.wgsl_standard.proofs.Common.{dec_lt, map-append, view, Pattern, Substitution, WgslType, Operand, parameter_for, parameters_for, in_order, operand_view, operands_view}
 use Rattle.std.proofs.Math.ListN.{drop_of_length-le}
-use Rattle.wgsl_core.specs.View.{view}
 use Rattle.wgsl_core.specs.declared.ty.Type.{«Type»}
-use Rattle.std.specs.Prelude.{map}
-use Rattle.wgsl_syntax.specs.declared.overload.Pattern.{Pattern}
-use Rattle.wgsl_syntax.specs.declared.overload.Substitution.{Substitution}
-use Rattle.wgsl_rules.specs.types.Types.{WgslType}
-use Rattle.wgsl_rules.specs.standard.Choice.{Operand, parameter_for, parameters_for}
-use Rattle.wgsl_rules.specs.standard.Overloads.{in_order}
-use Rattle.wgsl_standard.specs.Operands.{operand_view, operands_view}
 use Rattle.wgsl_standard.proofs.Listed.{listed_at, operand_at, pattern_there}
 use Rattle.wgsl_standard.proofs.resolved.parameter_types.Goals as goal
 

@@ -1,8 +1,5 @@
 use Rattle.std.proofs.Common.{◌≡◌, ◌++◌, map, drop}
-use Rattle.wgsl_core.specs.View.{view}
-use Rattle.wgsl_rules.specs.standard.Choice.{parameters_for}
-use Rattle.wgsl_rules.specs.standard.Overloads.{in_order}
-use Rattle.wgsl_standard.specs.Operands.{operands_view}
+use Rattle.wgsl_standard.proofs.Common.{view, parameters_for, in_order, operands_view}
 use Rattle.wgsl_standard.proofs.resolved.parameter_types.Given as goal
 
 abbrev pub invariant-loop-index : goal.invariant-loop-index

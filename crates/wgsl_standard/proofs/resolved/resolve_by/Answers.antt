@@ -1,9 +1,5 @@
-use Rattle.std.proofs.Common.{subst}
-use Rattle.std.specs.Prelude.{option_map}
-use Rattle.wgsl_rules.specs.standard.Choice.{IsChosen}
-use Rattle.wgsl_standard.specs.Callees.{callee_view}
-use Rattle.wgsl_standard.specs.Operands.{operands_view}
-use Rattle.wgsl_standard.specs.internal.Choices.{choice_view}
+use Rattle.std.proofs.Common.{subst, option_map}
+use Rattle.wgsl_standard.proofs.Common.{IsChosen, callee_view, operands_view, choice_view}
 use Rattle.wgsl_standard.proofs.Resolutions.{resolves, resolves_to_none}
 use Rattle.wgsl_standard.proofs.resolved.resolve_by.Goals as goal
 

@@ -1,10 +1,5 @@
-use Rattle.std.proofs.Common.{◌∙◌, ap, subst, sym}
-use Rattle.std.specs.Prelude.{All}
-use Rattle.std.proofs.lemmas.List.Elements.{All-push}
-use Rattle.std.specs.List.{list_any}
-use Rattle.wgsl_rules.specs.standard.Overloads.{in_order}
-use Rattle.wgsl_rules.specs.standard.Signatures.{is_scalar_or_vector}
-use Rattle.wgsl_standard.specs.Lines.{StandsAtIndex}
+use Rattle.std.proofs.Common.{◌∙◌, ap, subst, sym, All}
+use Rattle.wgsl_standard.proofs.Common.{All-push, list_any, in_order, is_scalar_or_vector, StandsAtIndex}
 use Rattle.wgsl_standard.proofs.NumberedLines.{scalars_stand, vectors_stand}
 use Rattle.wgsl_standard.proofs.signature.push_signature.Goals as goal
 

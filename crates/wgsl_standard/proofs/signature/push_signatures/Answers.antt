@@ -1,8 +1,5 @@
 use Rattle.std.proofs.Common.{◌≡◌, ◌∙◌, ◌+◌, ◌++◌, ◌<◌, ℕ, List, Bool, ap, append_assoc, arith, get_or, length, map, sym, take}
-use Rattle.wgsl_syntax.specs.declared.overload.Overload.{Overload}
-use Rattle.wgsl_rules.specs.standard.Signatures.{overload_lines, signature_lines}
-use Rattle.wgsl_standard.specs.Callees.{callee_view}
-use Rattle.wgsl_standard.specs.Texts.{callee_text, line_of}
+use Rattle.wgsl_standard.proofs.Common.{Overload, overload_lines, signature_lines, callee_view, callee_text, line_of}
 use Rattle.wgsl_standard.proofs.CountedLines.{first_line, lines_next, lines_then, one_more}
 use Rattle.wgsl_standard.proofs.signature.push_signatures.Goals as goal
 

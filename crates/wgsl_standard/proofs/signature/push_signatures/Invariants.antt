@@ -1,9 +1,5 @@
-use Rattle.std.proofs.Common.{◌≡◌, ◌+◌, ◌*◌, ◌≤◌, ◌++◌, length, map, take}
-use Rattle.std.specs.Prelude.{All}
-use Rattle.wgsl_rules.specs.standard.Signatures.{signature_lines}
-use Rattle.wgsl_standard.specs.Callees.{callee_view}
-use Rattle.wgsl_standard.specs.Lines.{StandsAtIndex, lines_before}
-use Rattle.wgsl_standard.specs.Texts.{callee_text, line_of}
+use Rattle.std.proofs.Common.{◌≡◌, ◌+◌, ◌*◌, ◌≤◌, ◌++◌, length, map, take, All}
+use Rattle.wgsl_standard.proofs.Common.{signature_lines, callee_view, StandsAtIndex, lines_before, callee_text, line_of}
 use Rattle.wgsl_standard.proofs.signature.push_signatures.Given as goal
 
 abbrev pub invariant-loop-overload : goal.invariant-loop-overload

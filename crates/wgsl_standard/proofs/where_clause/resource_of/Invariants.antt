@@ -1,6 +1,5 @@
 use Rattle.std.proofs.Common.{◌≡◌, drop}
-use Rattle.wgsl_rules.specs.standard.Overloads.{in_order}
-use Rattle.wgsl_rules.specs.standard.Signatures.{first_resource}
+use Rattle.wgsl_standard.proofs.Common.{in_order, first_resource}
 use Rattle.wgsl_standard.proofs.where_clause.resource_of.Given as goal
 
 abbrev pub invariant-loop-index : goal.invariant-loop-index

@@ -1,6 +1,5 @@
 use Rattle.std.proofs.Common.{◌∙◌, sym}
-use Rattle.wgsl_rules.specs.standard.Overloads.{in_order}
-use Rattle.wgsl_rules.specs.standard.Signatures.{is_scalar_or_vector}
+use Rattle.wgsl_standard.proofs.Common.{in_order, is_scalar_or_vector}
 use Rattle.wgsl_standard.proofs.Listed.{any_here, any_later}
 use Rattle.wgsl_standard.proofs.written.takes_either.Goals as goal
 

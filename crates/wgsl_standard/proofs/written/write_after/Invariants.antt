@@ -1,8 +1,5 @@
-use Rattle.std.proofs.Common.{drop}
-use Rattle.std.specs.Fmt.{IsPlainFormatter}
-use Rattle.std.specs.List.{flat_map}
-use Rattle.wgsl_rules.specs.standard.Overloads.{in_order}
-use Rattle.wgsl_rules.specs.standard.Signatures.{after_comma}
+use Rattle.std.proofs.Common.{drop, flat_map}
+use Rattle.wgsl_standard.proofs.Common.{IsPlainFormatter, in_order, after_comma}
 use Rattle.wgsl_standard.proofs.Listed.{Written}
 use Rattle.wgsl_standard.proofs.written.write_after.Given as goal
 

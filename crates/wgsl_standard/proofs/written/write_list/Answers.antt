@@ -1,6 +1,5 @@
 use Rattle.std.proofs.Common.{◌∙◌, refl, rules, sym}
-use Rattle.std.proofs.Output.{has_written_append, has_written_of_eq}
-use Rattle.wgsl_rules.specs.standard.Overloads.{in_order}
+use Rattle.wgsl_standard.proofs.Common.{has_written_append, has_written_of_eq, in_order}
 use Rattle.wgsl_standard.proofs.Listed.{first_and_others, no_first}
 use Rattle.wgsl_standard.proofs.written.write_list.Goals as goal
 
