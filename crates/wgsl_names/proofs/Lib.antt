@@ -1,2 +1,3 @@
 pub mod Shorts
 pub mod Scopes
+pub mod StructNames

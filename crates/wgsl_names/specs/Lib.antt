@@ -3,3 +3,4 @@ pub mod Known
 pub mod Stages
 pub mod Short
 pub mod Scopes
+pub mod StructNames

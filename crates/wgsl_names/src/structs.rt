@@ -1,7 +1,8 @@
 // Structs by name: in a type, a declared struct stands with few members that have the facts of all.
-ghost use Rattle.std.specs.Prelude.{◌≡◌};
+ghost use Rattle.std.specs.Prelude.{ℕ, List, ◌≡◌, IfOk, None, option_map};
 ghost use Rattle.wgsl_core.specs.View.{view};
 ghost use Rattle.wgsl_forms.specs.Memory.{behind};
+ghost use Rattle.wgsl_names.specs.StructNames.{AreNamed, IsDeclaredAs, struct_named, struct_of};
 
 use std::alloc::{AllocError, Global};
 use std::collections::BTreeMap;
@@ -33,7 +34,10 @@ pub struct Structs<'t> {
 
 impl<'t> Structs<'t> {
     /// No struct is declared.
-    pub fn none(alloc: Global) -> Structs<'t> {
+    pub fn none(alloc: Global) -> Structs<'t>
+        ensures named { AreNamed result }
+        ensures none { (name : List ℕ) → struct_named name result ≡ None }
+    {
         Structs {
             declared: Vec::new(alloc),
             names: BTreeMap::new(alloc),
@@ -41,18 +45,30 @@ impl<'t> Structs<'t> {
     }
 
     /// Gives a struct its name.
-    pub fn declare(&mut self, name: &'t str, declared: Declared<'t>) -> Result<(), AllocError> {
+    pub fn declare(&mut self, name: &'t str, declared: Declared<'t>) -> Result<(), AllocError>
+        ensures declared { AreNamed self.old → IfOk result (λ u. IsDeclaredAs name.now declared.entry self.old self.new) }
+        ensures named { AreNamed self.old → IfOk result (λ u. AreNamed self.new) }
+    {
         self.names.insert(name, self.declared.len())?;
         self.declared.push(declared)?;
         Ok(())
     }
 
     /// The declaration of the struct that a type is, or refers or points to.
-    pub fn declared(&self, ty: &Type) -> Option<&Declared<'t>> {
-        let Form::Struct(short) = behind(ty).form() else {
-            return None;
-        };
-        let index = self.names.get(short.name.as_str())?;
+    pub fn declared(&self, ty: &Type) -> Option<&Declared<'t>>
+        ensures { option_map (λ d. d.now) result ≡ struct_of (behind (view ty.now)) self.now }
+    {
+        match behind(ty).form() {
+            Form::Struct(short) => self.named(short.name.as_str()),
+            _ => None,
+        }
+    }
+
+    /// The struct that was declared with a name.
+    fn named(&self, name: &str) -> Option<&Declared<'t>>
+        ensures { option_map (λ d. d.now) result ≡ struct_named name.now self.now }
+    {
+        let index = self.names.get(name)?;
         self.declared.get(*index)
     }
 
