@@ -1,8 +1,14 @@
 //! A client of `wgsl serve`.
 
-use crate::json::{object, Json};
+use crate::json::Json;
 use std::io::{BufRead, BufReader, Read, Write};
+use std::ops::Range;
 use std::process::{Child, ChildStdin, ChildStdout, Command, Stdio};
+
+/// What an editor can do that counts bytes.
+pub const BYTES: &str = r#"{"general": {"positionEncodings": ["utf-8"]}, "textDocument": {
+    "publishDiagnostics": {"relatedInformation": true}, "hover": {"contentFormat": ["markdown"]},
+    "signatureHelp": {"signatureInformation": {"parameterInformation": {"labelOffsetSupport": true}}}}}"#;
 
 /// A server that runs, and what it has told.
 pub struct Client {
@@ -23,19 +29,20 @@ impl Client {
         Client { child, input, output, count: 0, told: Vec::new() }
     }
 
-    /// A server with these encodings in the order in which the client prefers them, and with these options.
-    pub fn start(encodings: &[&str], options: Json) -> Client {
+    /// A server that is initialized by a client that can do this, in JSON.
+    pub fn start(capabilities: &str, options: &str) -> Client {
         let mut client = Client::spawn();
-        let encodings: Json = encodings.iter().map(|name| Json::from(*name)).collect();
-        let related =
-            object([("publishDiagnostics", object([("relatedInformation", true.into())]))]);
-        let general = object([("positionEncodings", encodings)]);
-        let capabilities = object([("general", general), ("textDocument", related)]);
-        let params = object([("capabilities", capabilities), ("initializationOptions", options)]);
+        let [capabilities, options] = [capabilities, options].map(|text| Json::read(text).unwrap());
+        let params = object! { "capabilities": capabilities, "initializationOptions": options };
         let reply = client.request("initialize", params);
         assert_eq!(reply["result"]["serverInfo"]["name"].as_text(), Some("wgsl"));
-        client.tell("initialized", object([]));
+        client.tell("initialized", object! {});
         client
+    }
+
+    /// A server of a client that counts bytes.
+    pub fn of_bytes() -> Client {
+        Client::start(BYTES, "null")
     }
 
     /// Writes bytes; of a server that has ended none arrive.
@@ -45,8 +52,7 @@ impl Client {
     }
 
     pub fn tell(&mut self, method: &str, params: Json) {
-        let message =
-            object([("jsonrpc", "2.0".into()), ("method", method.into()), ("params", params)]);
+        let message = object! { "jsonrpc": "2.0", "method": method, "params": params };
         self.write(&framed(&message.to_string()));
     }
 
@@ -55,8 +61,8 @@ impl Client {
         self.count += 1;
         let id = Json::from(self.count);
         let message =
-            object([("jsonrpc", "2.0".into()), ("id", id.clone()), ("method", method.into())]);
-        self.write(&framed(&message.with("params", Some(params)).to_string()));
+            object! { "jsonrpc": "2.0", "id": self.count, "method": method, "params": params };
+        self.write(&framed(&message.to_string()));
         loop {
             let message = self.read().expect(method);
             if message["id"] == id {
@@ -66,18 +72,23 @@ impl Client {
         }
     }
 
-    pub fn open(&mut self, uri: &str, text: &str) {
-        let document = object([("uri", uri.into()), ("version", 1.into()), ("text", text.into())]);
-        self.tell("textDocument/didOpen", object([("textDocument", document)]));
+    /// The result of a request about a document.
+    pub fn ask(&mut self, method: &str, params: Json) -> Json {
+        self.request(&format!("textDocument/{method}"), params)["result"].clone()
     }
 
-    pub fn change(&mut self, uri: &str, version: usize, text: &str) {
-        let document = object([("uri", uri.into()), ("version", version.into())]);
-        let changes = Json::List(vec![object([("text", text.into())])]);
-        self.tell(
-            "textDocument/didChange",
-            object([("textDocument", document), ("contentChanges", changes)]),
-        );
+    pub fn open(&mut self, uri: &str, text: &str) {
+        let document = object! { "uri": uri, "version": 1, "text": text };
+        self.tell("textDocument/didOpen", object! { "textDocument": document });
+    }
+
+    /// Tells that a document has another text, in place of a range of its own if there is one.
+    pub fn change(&mut self, uri: &str, version: usize, range: Option<Json>, text: &str) {
+        let change = object! { "text": text }.with("range", range);
+        let document = object! { "uri": uri, "version": version };
+        let changes = Json::List(vec![change]);
+        let params = object! { "textDocument": document, "contentChanges": changes };
+        self.tell("textDocument/didChange", params);
     }
 
     /// The next message, or None at the end of the output.
@@ -133,12 +144,17 @@ pub fn framed(text: &str) -> Vec<u8> {
 
 /// The parameters of a request about a document.
 pub fn opened(uri: &str) -> Json {
-    object([("textDocument", object([("uri", uri.into())]))])
+    object! { "textDocument": object! { "uri": uri } }
 }
 
 /// The position of a byte, counted in bytes.
 pub fn at(text: &str, byte: usize) -> Json {
     let line = text[..byte].matches('\n').count();
     let start = text[..byte].rfind('\n').map_or(0, |at| at + 1);
-    object([("line", line.into()), ("character", (byte - start).into())])
+    object! { "line": line, "character": byte - start }
+}
+
+/// The range of some bytes.
+pub fn range(text: &str, bytes: &Range<usize>) -> Json {
+    object! { "start": at(text, bytes.start), "end": at(text, bytes.end) }
 }
