@@ -37,7 +37,7 @@ fn place(range: &Json, text: &str) -> String {
     format!("{} {}", position(start), &line[start_of_word..end])
 }
 
-/// An answer in short: its texts and numbers, places with the words there, and of a long list the first items.
+/// An answer in short: places with the words there, and of a long list the first items.
 fn shown(answer: &Json, text: &str) -> String {
     let all =
         |items: &[Json]| items.iter().map(|of| shown(of, text)).collect::<Vec<_>>().join("; ");
@@ -53,10 +53,9 @@ fn shown(answer: &Json, text: &str) -> String {
         Json::Object(_) if answer.get("line").is_some() => position(answer),
         Json::Object(_) if answer.get("start").is_some() => place(answer, text),
         Json::Object(members) => {
-            let members = members.iter().filter(|member| member.0 != "uri");
-            let shown = members.map(|(_, value)| match value {
-                Json::List(_) => format!("({})", shown(value, text)),
-                _ => shown(value, text),
+            let shown = members.iter().map(|(name, value)| match value {
+                Json::List(_) => format!("{name}=({})", shown(value, text)),
+                _ => format!("{name}={}", shown(value, text)),
             });
             shown.collect::<Vec<_>>().join(" ")
         }
@@ -76,9 +75,9 @@ fn requests_are_answered() {
         let start = text.find(found).expect(&cursor);
         text.replace_range(start..start + found.len(), &written.replace('‸', ""));
         let place = at(&text, start + written.find('‸').unwrap());
-        client.open("file:///it.wgsl", &text);
+        client.open("it", &text);
         let (called, word) = method.split_once(' ').unwrap_or((&method, ""));
-        let params = opened("file:///it.wgsl")
+        let params = opened("it")
             .with("position", Some(place))
             .with("range", Some(range(&text, &(0..text.len()))))
             .with("newName", Some(word))
@@ -105,16 +104,15 @@ fn faults_are_told() {
     for (version, quoted) in list.lines().filter_map(|line| line.rsplit('\t').next()).enumerate() {
         let text = quoted[1..quoted.len() - 1].replace("\\n", "\n").replace("\\\"", "\"");
         match version {
-            0 => client.open("file:///it.wgsl", &text),
-            _ => client.change("file:///it.wgsl", version, None, &text),
+            0 => client.open("it", &text),
+            _ => client.change("it", version, None, &text),
         }
         let expected = check(&text).faults.into_iter().map(|fault| {
             let (here, related): (Vec<_>, Vec<_>) =
                 fault.notes.into_iter().partition(|note| note.bytes == fault.bytes);
             let here = here.into_iter().map(|note| format!("\n{}", note.message));
             let related = related.into_iter().map(|note| {
-                let location =
-                    object! { "uri": "file:///it.wgsl", "range": range(&text, &note.bytes) };
+                let location = object! { "uri": "it", "range": range(&text, &note.bytes) };
                 object! { "location": location, "message": note.message }
             });
             let related: Vec<Json> = related.collect();
@@ -127,7 +125,7 @@ fn faults_are_told() {
         });
         assert_eq!(client.faults()["diagnostics"], expected.collect(), "{text}");
     }
-    client.tell("textDocument/didClose", opened("file:///it.wgsl"));
+    client.tell("textDocument/didClose", opened("it"));
     assert_eq!(client.faults()["diagnostics"], Json::List(Vec::new()));
     assert_eq!(client.end(), Some(0));
 }
