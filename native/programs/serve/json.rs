@@ -32,10 +32,7 @@ impl Json {
         let mut reader = Reader { text, at: 0 };
         let value = reader.value(0).ok_or(reader.at)?;
         reader.skip_blanks();
-        if reader.at < text.len() {
-            return Err(reader.at);
-        }
-        Ok(value)
+        Some(value).filter(|_| reader.at == text.len()).ok_or(reader.at)
     }
 
     /// The object with one more member, if there is a value for it.
@@ -53,25 +50,19 @@ impl Json {
     }
 
     pub fn as_text(&self) -> Option<&str> {
-        match self {
-            Json::Text(text) => Some(text),
-            _ => None,
-        }
+        let Json::Text(text) = self else { return None };
+        Some(text)
     }
 
     pub fn as_list(&self) -> &[Json] {
-        match self {
-            Json::List(items) => items,
-            _ => &[],
-        }
+        let Json::List(items) = self else { return &[] };
+        items
     }
 
     /// A number without a sign, fraction and exponent.
     pub fn as_count(&self) -> Option<usize> {
-        match self {
-            Json::Number(digits) => digits.parse().ok(),
-            _ => None,
-        }
+        let Json::Number(digits) = self else { return None };
+        digits.parse().ok()
     }
 }
 

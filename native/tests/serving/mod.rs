@@ -10,13 +10,12 @@ pub const BYTES: &str = r#"{"general": {"positionEncodings": ["utf-8"]}, "textDo
     "publishDiagnostics": {"relatedInformation": true}, "hover": {"contentFormat": ["markdown"]},
     "signatureHelp": {"signatureInformation": {"parameterInformation": {"labelOffsetSupport": true}}}}}"#;
 
-/// A server that runs, and what it has told.
+/// A server that runs.
 pub struct Client {
     child: Child,
     pub input: Option<ChildStdin>,
     output: BufReader<ChildStdout>,
     count: usize,
-    pub told: Vec<Json>,
 }
 
 impl Client {
@@ -26,7 +25,7 @@ impl Client {
         command.arg("serve").stdin(Stdio::piped()).stdout(Stdio::piped()).stderr(Stdio::null());
         let mut child = command.spawn().unwrap();
         let (input, output) = (child.stdin.take(), BufReader::new(child.stdout.take().unwrap()));
-        Client { child, input, output, count: 0, told: Vec::new() }
+        Client { child, input, output, count: 0 }
     }
 
     /// A server that is initialized by a client that can do this, in JSON.
@@ -56,7 +55,7 @@ impl Client {
         self.write(&framed(&message.to_string()));
     }
 
-    /// The response to a request. What else the server says before it is `told`.
+    /// The response to a request; what the server says in front of it is passed over.
     pub fn request(&mut self, method: &str, params: Json) -> Json {
         self.count += 1;
         let id = Json::from(self.count);
@@ -68,7 +67,6 @@ impl Client {
             if message["id"] == id {
                 return message;
             }
-            self.told.push(message);
         }
     }
 
@@ -93,18 +91,10 @@ impl Client {
 
     /// The next message, or None at the end of the output.
     pub fn read(&mut self) -> Option<Json> {
-        let mut len = None;
-        loop {
-            let mut line = String::new();
-            if self.output.read_line(&mut line).unwrap() == 0 {
-                return None;
-            }
-            match line.trim_end() {
-                "" => break,
-                line => len = line.strip_prefix("Content-Length: ").map(|len| len.parse().unwrap()),
-            }
-        }
-        let mut bytes = vec![0; len.unwrap()];
+        let lines = self.output.by_ref().lines().map(Result::unwrap);
+        let header: Vec<String> = lines.take_while(|line| !line.is_empty()).collect();
+        let len = header.iter().find_map(|line| line.strip_prefix("Content-Length: "))?;
+        let mut bytes = vec![0; len.parse().unwrap()];
         self.output.read_exact(&mut bytes).unwrap();
         Some(Json::read(std::str::from_utf8(&bytes).unwrap()).unwrap())
     }
@@ -122,10 +112,7 @@ impl Client {
     /// All messages that are left, and the status, when the input has ended.
     pub fn rest(mut self) -> (Vec<Json>, Option<i32>) {
         self.input = None;
-        let mut rest = Vec::new();
-        while let Some(message) = self.read() {
-            rest.push(message);
-        }
+        let rest = std::iter::from_fn(|| self.read()).collect();
         (rest, self.child.wait().unwrap().code())
     }
 
