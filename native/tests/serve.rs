@@ -134,17 +134,15 @@ fn faults_are_told() {
 #[test]
 fn many_faults_are_cut() {
     let mut client = Client::of_bytes();
-    for (count, told, last) in [(1000, 1000, "`x` stands for no value"), (1002, 1001, "and 2 more")]
-    {
-        client.open(
-            "a",
-            &(0..count).map(|number| format!("const a{number} = x;\n")).collect::<String>(),
-        );
+    let last_of_1000 = "`x` stands for no value";
+    for (count, told, last) in [(1000, 1000, last_of_1000), (1002, 1001, "and 2 more")] {
+        let lines = (0..count).map(|number| format!("const a{number} = x;\n"));
+        client.open("a", &lines.collect::<String>());
         let faults = client.faults()["diagnostics"].clone();
-        let faults = faults.as_list();
-        assert_eq!(faults.len(), told);
-        assert_eq!(faults[told - 1]["message"].as_text(), Some(last));
-        assert_eq!(faults[told - 1]["range"]["start"]["line"], (told - 1).into());
+        assert_eq!(faults.as_list().len(), told);
+        let fault = &faults.as_list()[told - 1];
+        assert_eq!(fault["message"].as_text(), Some(last));
+        assert_eq!(fault["range"]["start"]["line"], (told - 1).into());
     }
 }
 
@@ -153,28 +151,23 @@ fn many_faults_are_cut() {
 fn capabilities_are_asked() {
     let text = "const a = max(1, 2); const b = 1; const b = 2;";
     let place = opened("a").with("position", Some(at(text, text.find("1,").unwrap())));
-    for (capabilities, kind, label, notes) in [
-        (serving::BYTES, "markdown", "[4, 5]", 1),
-        ("{}", "plaintext", "\"T\"", 0),
-        (
-            r#"{"textDocument": {"hover": {"contentFormat": ["plaintext"]}}}"#,
-            "plaintext",
-            "\"T\"",
-            0,
-        ),
+    let plain = r#"{"textDocument": {"hover": {"contentFormat": ["plaintext"]}}}"#;
+    let fence = "```wgsl\n";
+    for (capabilities, kind, fence, label, notes) in [
+        (serving::BYTES, "markdown", fence, "[4, 5]", 1),
+        (plain, "plaintext", "", "\"T\"", 0),
+        ("{}", "plaintext", "", "\"T\"", 0),
     ] {
         let mut client = Client::start(capabilities, "null");
         client.open("a", text);
-        let notes_of = client.faults()["diagnostics"].as_list()[0]["relatedInformation"].clone();
-        assert_eq!(notes_of.as_list().len(), notes);
+        let faults = client.faults()["diagnostics"].clone();
+        assert_eq!(faults.as_list()[0]["relatedInformation"].as_list().len(), notes);
         let contents = client.ask("hover", place.clone())["contents"].clone();
         assert_eq!(contents["kind"].as_text(), Some(kind));
-        assert_eq!(
-            contents["value"].as_text().unwrap().starts_with("```wgsl\n1"),
-            kind == "markdown"
-        );
+        let value = contents["value"].as_text().unwrap();
+        assert!(value.starts_with(&format!("{fence}1: AbstractInt")), "{value}");
         let signatures = client.ask("signatureHelp", place.clone())["signatures"].clone();
-        let parameters = &signatures.as_list()[0]["parameters"];
+        let parameters = signatures.as_list()[0]["parameters"].clone();
         assert_eq!(parameters.as_list()[0]["label"].to_string(), label);
     }
 }
