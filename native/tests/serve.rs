@@ -273,6 +273,10 @@ fn a_long_document_is_served() {
     assert_eq!(client.read().unwrap()["error"]["code"].to_string(), "-32800");
     let place = opened("a").with("position", Some(at(&text, text.len() - 6)));
     assert_ne!(client.ask("hover", place), Json::Null);
+    // Of a text that the next message changes no faults are told.
+    client.open("a", &text);
+    client.change("a", 2, None, "");
+    assert_eq!(client.faults()["version"], 2.into());
     assert_eq!(client.end(), Some(0));
 }
 
