@@ -76,21 +76,30 @@ async function measureStart(browser, address) {
   console.log(`the page from a file: first picture after ${ms(middle(shown))}, first answer after ${ms(middle(ready))}`);
 }
 
-/** What a key at a place costs: the page's script before the picture, and what is put off until no key comes. */
+/** The processor time of the script on the page's main thread so far, to which other programs on the machine add nothing. */
+async function scriptTime(page) {
+  const { metrics } = await page.call("Performance.getMetrics");
+  return 1000 * metrics.find(({ name }) => name === "ScriptDuration").value;
+}
+
+// The next time that the page shows what it has found in a changed text.
+const NEXT_SHOWN = `globalThis.nextShown = new Promise((done) => new MutationObserver((_, observer) => {
+  if (document.documentElement.dataset.checked !== undefined) (observer.disconnect(), done());
+}).observe(document.documentElement, { attributeFilter: ["data-checked"] })), null`;
+
+/** What a key at a place costs: all of the page's script for it, with what is put off, and by the clock that before the picture. */
 async function measureKey(page, text, name, place, typed) {
-  const found = text.indexOf(place, text.length >> 2), index = (found < 0 ? text.indexOf(place) : found) + place.length;
+  const found = text.indexOf(place, text.length >> 2), index = (found < 0 ? text.indexOf(place) : found) + place.length, times = [];
   await page.run(`{ source.focus(); source.setSelectionRange(${index}, ${index}); performance.clearMeasures() }`);
-  for (let run = 0; run < RUNS; run += 2) {
-    for (const key of [() => page.type(typed), () => page.press("Backspace")]) {
-      const before = await page.run(`performance.getEntriesByName("update").length`);
-      await key();
-      await page.until(`performance.getEntriesByName("update").length > ${before}`);
-    }
+  for (let run = 0; run < RUNS; run++) {
+    await page.run(NEXT_SHOWN);
+    const before = await scriptTime(page);
+    await (run % 2 ? page.press("Backspace") : page.type(typed));
+    await page.run("nextShown");
+    times.push((await scriptTime(page)) - before);
   }
-  await page.until(`performance.getEntriesByName("draw").length > 0 || ${typed !== "}"}`);
-  const [updates, draws] = await page.run(`["update", "draw"].map((name) => performance.getEntriesByName(name).map(({ duration }) => duration))`);
-  const later = draws.length ? `; put off ${ms(middle(draws))}` : "";
-  console.log(`a key ${name}: ${ms(middle(updates))}, at most ${ms(Math.max(...updates))}${later}`);
+  const updates = await page.run(`performance.getEntriesByName("update").map(({ duration }) => duration)`);
+  console.log(`a key ${name}: ${ms(middle(times))} of processor time, at most ${ms(Math.max(...times))}; before the picture ${ms(middle(updates))}`);
 }
 
 async function measurePage() {
@@ -101,6 +110,7 @@ async function measurePage() {
   await page.goTo(address);
   await page.run(`source.value = ${JSON.stringify(text)}; source.dispatchEvent(new Event("input"))`);
   await page.until("document.querySelectorAll('.struct').length === 100");
+  await page.call("Performance.enable", { timeDomain: "threadTicks" });
   await measureKey(page, text, "in a comment", "// Struct", "x");
   await measureKey(page, text, "in a member's name", "member_3", "x");
   await measureKey(page, text, "in a number that types have", "= 4", "1");

@@ -1,18 +1,21 @@
 //! The names that WGSL predeclares, as an editor completes them. Those of types and of enumerants include naga's.
 //!
 //! ```
-//! use wgsl_types_proved::predeclared::{attributes, builtin_values, enumerants, functions, is_function, types};
+//! use wgsl_types_proved::predeclared::{attributes, builtin_values, enumerants, extensions, functions, is_function, types};
 //!
 //! assert!(is_function("bitcast") && functions().any(|name| name == "dpdx"));
 //! assert!(types().any(|name| name == "vec3") && types().any(|name| name == "vec3f"));
 //! assert!(enumerants().any(|name| name == "read_write"));
 //! assert!(attributes().any(|name| name == "workgroup_size"));
 //! assert!(builtin_values().any(|name| name == "position"));
+//! let [enabled, required] = extensions();
+//! assert!(enabled.contains(&"f16") && required.contains(&"buffer_view"));
 //! ```
 
 use crate::proved::wgsl_standard::names::{templates, ALIASES, OTHER_TYPES};
 pub use crate::standard::{functions, is_function};
 use crate::syntax::{AddressSpace, RuleSet, Scalar, TexelFormat};
+use alloc::vec::Vec;
 use lists::*;
 
 /// What the build script makes.
@@ -42,6 +45,11 @@ pub fn enumerants() -> impl Iterator<Item = &'static str> {
 /// The attributes.
 pub fn attributes() -> impl Iterator<Item = &'static str> {
     ATTRIBUTES.iter().copied()
+}
+
+/// The extensions of `enable`, and those of `requires`, without a browser's and naga's own.
+pub fn extensions() -> [Vec<&'static str>; 2] {
+    [ENABLED, REQUIRED].map(|texts| texts.iter().flat_map(|text| text.split(' ')).collect())
 }
 
 /// The built-in values, the arguments of `@builtin`.

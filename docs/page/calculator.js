@@ -3,16 +3,9 @@
 import { Refused, Unreadable, answer, standardAnswer } from "wgsl-types-proved";
 import { typeIn } from "page/checked";
 import { coded, h } from "page/dom";
-import { declaredNames } from "page/wgsl";
 
 const OURS = "WGSL’s own rules", PORTED = "Rules of the crate wgsl-types", SHADER = "WGSL’s own rules, in the shader above";
 const HIDDEN = "No type: an error in the shader hides it.";
-
-/** Whether a request has a name that the shader declares. */
-export function namesShader(text, shader) {
-  const names = declaredNames(shader);
-  return text.split(/[^\p{XID_Continue}]+/u).some((word) => names.has(word));
-}
 
 /** The answers to a request with names of the shader: to an expression there; else to the request by itself. */
 export async function answersIn(shader, text) {

@@ -24,4 +24,12 @@ export function replaceChildren(parent, wanted) {
   });
 }
 
+/** Has an element show what a map makes by its keys, and nothing else; what `shown` has by a key stays. Returns what is shown, by its keys. */
+export function showKept(parent, shown, wanted) {
+  const made = new Map();
+  for (const [key, make] of wanted) made.set(key, shown.get(key) ?? make(made.size));
+  replaceChildren(parent, [...made.values()]);
+  return made;
+}
+
 export const counted = (n, word) => `${n.toLocaleString("en")} ${word}${n === 1 ? "" : "s"}`;

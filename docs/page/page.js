@@ -1,96 +1,102 @@
 // The page: a text on the left, what it lays out on the right, and the calculator below.
-import { SourceError, code, layouts } from "wgsl-types-proved";
+import { SourceError, code } from "wgsl-types-proved";
 import { hashOf, stateOf } from "page/address";
-import { answersIn, answersTo, namesShader } from "page/calculator";
+import { answersIn, answersTo } from "page/calculator";
 import { newBrokenCard, newCard, newNote, spaceOf, typed } from "page/card";
-import { check, faultsOf } from "page/checked";
+import { check, last, namesShader, problemsOf } from "page/checked";
 import { colored } from "page/colors";
-import { counted, h, replaceChildren } from "page/dom";
+import { counted, h, showKept } from "page/dom";
 import { showColors, showHints } from "page/editor";
 import { examples, tries } from "page/examples";
 import { tellCaret, watch } from "page/pointed";
-import { follow, problemsOf, showProblems } from "page/problems";
-import { foreignOf, leftOut } from "page/wgsl";
+import { follow, showProblems } from "page/problems";
 
 const at = (id) => document.getElementById(id);
 const source = at("source"), request = at("request");
 const LANGUAGES = { c: "C", rust: "Rust", numpy: "numpy", typescript: "TypeScript" };
 const SAVED_AFTER = 400, DRAWN_AFTER = 120; // milliseconds without a key
 const DRAWN_AT_ONCE = 4; // cards
-const NONE = { count: 0, structs: [] }; // left out
-let told = { structs: [], variables: [], errors: [], findings: [] }, broken = NONE, foreign = null;
 
 // What is shown of a text.
 
-/** What the text lays out, errors or not. */
-function read(text) {
-  try {
-    return layouts(text.toWellFormed());
-  } catch (error) {
-    if (error instanceof SourceError) return error.layouts;
-    throw error;
-  }
-}
+let isNew = true, wasBroken = false; // an example, or a text of an address; the text of the cards
 
-function tellProblems() {
-  told = read(source.value);
-  const { structs, variables, errors } = told;
-  broken = errors.length ? leftOut(source.value, told) : NONE;
-  foreign = errors.length && structs.length + variables.length === 0 ? foreignOf(source.value) : null;
-  showColors();
-  tellFaults();
-  delete document.documentElement.dataset.checked;
-  check(source.value, whenChecked);
-}
-
+/** Shows what was found in a text. What it lays out waits for the newest one. */
 function whenChecked(isNewest) {
-  tellFaults();
+  const start = performance.now();
+  tellProblems();
+  tellCounts();
   showHints();
-  if (isAboutShader || namesShader(request.value, source.value)) ask();
-  if (isNewest) document.documentElement.dataset.checked = "";
+  if (isNew || isAboutShader || namesShader(request.value)) ask();
+  if (isNewest) draw();
+  performance.measure("checked", { start });
 }
 
-/** What is wrong: what the layouts say of this text, and what the check said of it last. */
-function tellFaults() {
-  const problems = problemsOf(told, faultsOf(source.value)), { errors, findings } = problems, { structs, variables } = told, numbers = [];
+/** What is wrong: what was found last, where it stands now. */
+function tellProblems() {
+  showProblems(problemsOf(source.value));
+  tellCaret();
+}
+
+function tellCounts() {
+  const { errors, findings } = problemsOf(last.text), { structs, variables, broken, foreign } = last, numbers = [];
   if (foreign) numbers.push(`looks like ${foreign.language}`);
   else numbers.push(counted(structs.length, "struct"), counted(variables.length, "variable"));
   if (broken.count) numbers.push(`${broken.count.toLocaleString("en")} left out`);
   if (errors.length) numbers.push(counted(errors.length, "error"));
   if (findings.length) numbers.push(counted(findings.length, "finding"));
   at("counts").textContent = numbers.join(" · ");
-  showProblems(problems);
-  tellCaret();
+}
+
+/** Draws what the text lays out; later if many cards are others, or if there are errors, which take away structs that the next key may bring back. */
+function draw() {
+  const wanted = wantedCards(), others = [...wanted.keys()].filter((key) => !cards.has(key)).length;
+  const isLater = !isNew && (wasBroken || last.isBroken || others > DRAWN_AT_ONCE);
+  [isNew, wasBroken, codeIsOld] = [false, last.isBroken, true];
+  if (!isLater) drawAll(wanted);
+  if (isLater || codeIsNear) drawTimer = setTimeout(drawLater, DRAWN_AFTER);
+  else tellDrawn();
 }
 
 function drawAll(wanted = wantedCards()) {
-  showStructs(wanted);
+  cards = showKept(at("structs"), cards, wanted);
   showVariables();
-  at("code").hidden = told.structs.length === 0;
-  if (told.structs.length) showCode();
+  at("code").hidden = last.structs.length === 0;
+  showTabs();
+}
+
+function drawLater() {
+  const start = performance.now();
+  drawAll();
+  if (codeIsNear) writeCode();
+  tellDrawn();
+  performance.measure("draw", { start });
+}
+
+/** Says that what is shown is of the text, and first that the page works. */
+function tellDrawn() {
+  const { dataset } = document.documentElement;
+  if (dataset.ready === undefined) performance.mark("ready");
+  dataset.ready = dataset.checked = "";
 }
 
 let cards = new Map(); // by what they show, so that a card stays if its struct does
 
 /** The cards to be shown, by what they show, and how each is made. Structs that are bound come first. */
 function wantedCards() {
-  const keys = new Map(), bound = Map.groupBy(told.variables, ({ typeTree }) => innermost(typeTree).struct), cards = [];
-  for (const struct of told.structs) {
+  const keys = new Map(), bound = Map.groupBy(last.variables, ({ typeTree }) => innermost(typeTree).struct), cards = [];
+  for (const struct of last.structs) {
     const variables = bound.get(struct) ?? [], places = variables.map(({ name, type, group, binding, space, access }) => [name, type, group, binding, space, access]);
     const make = (index) => newCard(struct, variables, index);
     cards.push({ index: struct.index, isBound: variables.some(({ binding }) => binding !== null), key: keyOf(struct, keys) + places.join(";"), make });
   }
-  for (const struct of broken.structs) cards.push({ ...struct, key: struct, make: () => newBrokenCard(struct) });
+  for (const struct of last.broken.structs) cards.push({ ...struct, key: struct, make: () => newBrokenCard(struct) });
   cards.sort((a, b) => b.isBound - a.isBound || a.index - b.index);
-  if (foreign || (cards.length === 0 && told.variables.length === 0)) cards.unshift({ key: JSON.stringify(foreign), make: () => newNote(foreign) });
+  if (last.foreign || (cards.length === 0 && last.variables.length === 0)) {
+    const { foreign } = last;
+    cards.unshift({ key: JSON.stringify(foreign), make: () => newNote(foreign) });
+  }
   return new Map(cards.map(({ key, make }) => [key, make]));
-}
-
-function showStructs(wanted) {
-  const made = new Map();
-  for (const [key, make] of wanted) made.set(key, cards.get(key) ?? make(made.size));
-  replaceChildren(at("structs"), [...made.values()]);
-  cards = made;
 }
 
 /** The type inside all arrays. */
@@ -117,12 +123,12 @@ function keyOf(struct, keys) {
 let shownVariables = "";
 
 function showVariables() {
-  const key = told.variables.map(({ name, type, group, binding, space, access, minBindingSize }) => [name, type, group, binding, space, access, minBindingSize]).join("\n");
+  const key = last.variables.map(({ name, type, group, binding, space, access, minBindingSize }) => [name, type, group, binding, space, access, minBindingSize]).join("\n");
   if (key === shownVariables) return;
   shownVariables = key;
-  at("variables").hidden = told.variables.length === 0;
+  at("variables").hidden = last.variables.length === 0;
   const cell = (n) => h("td", { className: n === null ? "none" : "number" }, n === null ? "–" : n.toLocaleString("en"));
-  const rows = told.variables.map((variable) => {
+  const rows = last.variables.map((variable) => {
     const { group, binding, minBindingSize } = variable;
     const named = h("td", { className: "wide" }, ...typed(variable), h("span", { className: "space" }, `var${spaceOf(variable)}`));
     return h("tr", {}, cell(group), cell(binding), named, cell(minBindingSize));
@@ -135,7 +141,7 @@ function showVariables() {
 let language = "c";
 let codeIsOld = false, codeIsNear = false; // far from the window it isn't written
 
-function showCode() {
+function showTabs() {
   for (const name of Object.keys(LANGUAGES)) {
     const tab = at(`tab-${name}`), isShown = name === language;
     tab.setAttribute("aria-selected", String(isShown));
@@ -143,8 +149,6 @@ function showCode() {
   }
   at("code-text").setAttribute("aria-labelledby", `tab-${language}`);
   at("copy-code").textContent = `Copy ${LANGUAGES[language]}`;
-  if (codeIsNear) writeCode();
-  else codeIsOld = true;
 }
 
 function writeCode() {
@@ -164,7 +168,7 @@ function codeOf(text) {
 
 function choose(name) {
   language = name;
-  showCode();
+  showTabs();
   writeCode();
 }
 
@@ -193,7 +197,7 @@ let asks = 0, isAboutShader = false;
 /** Answers at once, unless the request has names of the shader. */
 async function ask() {
   const number = ++asks, asked = request.value;
-  isAboutShader = namesShader(asked, source.value);
+  isAboutShader = namesShader(asked);
   at("answers").ariaBusy = String(isAboutShader);
   const answers = isAboutShader ? await answersIn(source.value, asked) : answersTo(asked);
   if (number !== asks) return;
@@ -215,8 +219,8 @@ function save() {
   saveTimer = setTimeout(saveNow, SAVED_AFTER);
 }
 
-// A key: what is wrong is told before the next picture. What is laid out is drawn then too, unless many structs are others, or there
-// are errors, which take away structs that the next key may bring back: that waits until no key comes.
+// A key: the text has its colours before the next picture, and what was found before it moves along. What is found then is shown when
+// the worker has found it, and what isn't near waits until no key comes.
 
 let isDue = false, drawTimer = 0;
 
@@ -227,29 +231,25 @@ function changed() {
 }
 
 function update() {
+  const start = performance.now();
   isDue = false;
-  const start = performance.now(), hadErrors = told.errors.length > 0;
-  tellProblems();
-  clearTimeout(drawTimer);
-  const wanted = wantedCards(), others = [...wanted.keys()].filter((key) => !cards.has(key)).length;
-  if (hadErrors || told.errors.length || others > DRAWN_AT_ONCE) drawTimer = setTimeout(drawLater, DRAWN_AFTER);
-  else drawAll(wanted);
+  read();
   performance.measure("update", { start });
 }
 
-function drawLater() {
-  const start = performance.now();
-  drawAll();
-  performance.measure("draw", { start });
+function read() {
+  clearTimeout(drawTimer);
+  delete document.documentElement.dataset.checked;
+  showColors();
+  tellProblems();
+  check(source.value, whenChecked);
 }
 
 function fill([text, asked = tries[0]]) {
   source.value = text;
   request.value = asked;
-  clearTimeout(drawTimer);
-  tellProblems();
-  drawAll();
-  ask();
+  isNew = true;
+  read();
 }
 
 function addChoices() {
@@ -286,7 +286,7 @@ fill((await stateOf(location.hash)) ?? [Object.values(examples)[0]]);
 source.addEventListener("input", changed);
 source.addEventListener("scroll", follow, { passive: true });
 at("types").addEventListener("change", showHints);
-watch(() => told.structs);
+watch();
 request.addEventListener("input", () => (ask(), save()));
 at("share").addEventListener("click", async () => {
   await saveNow();
@@ -297,5 +297,3 @@ addEventListener("hashchange", async () => {
   const state = await stateOf(location.hash);
   if (state) fill(state);
 });
-document.documentElement.dataset.ready = "";
-performance.mark("ready");

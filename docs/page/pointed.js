@@ -1,18 +1,16 @@
 // What stands at the pointer and at the caret: its type, what is wrong there, and where its name is declared.
 import { typed } from "page/card";
-import { isChecked, partAt, partEndingAt } from "page/checked";
+import { declarationOf, isChecked, last, partAt, partEndingAt } from "page/checked";
 import { coded, h } from "page/dom";
 import { goTo, notesOf, problemsAt } from "page/problems";
-import { declaredNames } from "page/wgsl";
 
 const at = (id) => document.getElementById(id), source = at("source"), tip = at("tip");
 const SHOWN = 40; // characters of an expression
 const CLEAR = 16; // pixels between the pointer and what is told there
-let structs = () => [], pointed = -1;
+let pointed = -1;
 
-/** Tells what stands at the pointer and at the caret. `structsOfText` has the structs of the text. */
-export function watch(structsOfText) {
-  structs = structsOfText;
+/** Tells what stands at the pointer and at the caret. */
+export function watch() {
   document.addEventListener("selectionchange", tellCaret);
   source.addEventListener("keydown", (event) => {
     hide();
@@ -69,12 +67,12 @@ function goToDeclaration(index) {
   const [name] = /^\p{XID_Continue}*/u.exec(text.slice(start)), before = text.slice(0, start).trimEnd(), end = start + name.length;
   const declared = before.endsWith(".")
     ? memberOf(partEndingAt(text, before.slice(0, -1).trimEnd().length)?.type, name)
-    : [partEndingAt(text, end, start)?.declared, declaredNames(text).get(name)].find((place) => place >= 0);
+    : [partEndingAt(text, end, start)?.declared, declarationOf(text, name)].find((place) => place >= 0);
   if (name && declared !== undefined) goTo({ index: declared, end: { index: declared + name.length } });
 }
 
 /** Where the struct of a type declares a member. */
 function memberOf(type, name) {
   const [, value] = /^(?:ref|ptr)<\w+, (.*), \w+>$/.exec(type) ?? [null, type];
-  return structs().find((struct) => struct.name === value)?.members.find((member) => member.name === name)?.index;
+  return last.structs.find((struct) => struct.name === value)?.members.find((member) => member.name === name)?.index;
 }

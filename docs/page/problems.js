@@ -1,39 +1,41 @@
 // What is wrong: beside the lines, under the words, and in a list.
-import { coded, h } from "page/dom";
+import { coded, h, showKept } from "page/dom";
 import { followColors, topOf } from "page/editor";
 
 const SHOWN_MARKS = 200, SHOWN_PROBLEMS = 100, SHOWN_NOTES = 3;
 const at = (id) => document.getElementById(id), source = at("source");
-let lineCount = 0, shown = [], shownKey = "";
-
-/** What is wrong with a text: its errors, among them faults of the check, and findings. A fault beside one of these adds its notes. */
-export function problemsOf({ errors, findings }, faults) {
-  const places = new Map(faults.map((fault) => [fault.index, fault])), known = new Set([...errors, ...findings].map(({ index }) => index));
-  const withNotes = (message) => ({ ...message, notes: places.get(message.index)?.notes });
-  const others = faults.filter(({ index }) => !known.has(index));
-  return { errors: [...errors.map(withNotes), ...others].sort((a, b) => a.index - b.index), findings: findings.map(withNotes) };
-}
+let lineCount = 0, shown = [];
+let numbers = new Map(), marks = new Map(), items = new Map(); // what shows these, by what it shows
+let current = new Map(); // the messages of the items, as they stand now
 
 /** Shows the errors and findings of the text, and the numbers of its lines. What shows the same stays, as it may have the focus. */
 export function showProblems({ errors, findings }) {
-  const all = [...errors.map((message) => ["error", message]), ...findings.map((message) => ["finding", message])];
+  const all = [...errors.map((message) => ["error", message]), ...findings.map((message) => ["finding", message])], text = source.value;
   shown = all.slice(0, SHOWN_MARKS);
-  showNumbers();
-  const placed = shown.map(([kind, message]) => [kind, message, placeOf(message)]);
-  const key = JSON.stringify([all.length, placed], (name, value) => (name === "index" ? undefined : value));
-  if (key === shownKey) return;
-  shownKey = key;
+  showNumbers(text);
+  const placed = shown.map(([kind, message]) => ({ kind, message, place: placeOf(message, text) }));
   showMarks(placed);
-  const items = placed.slice(0, SHOWN_PROBLEMS).map(([kind, message, place], index) => {
-    const now = () => shown[index][1];
-    return h("li", {}, problem(kind, message, place, () => goTo(now())), ...notesOf(message, (note) => goTo(now().notes[note])));
-  });
-  if (all.length > SHOWN_PROBLEMS) items.push(h("li", { className: "place" }, `and ${(all.length - SHOWN_PROBLEMS).toLocaleString("en")} more`));
-  at("problems").replaceChildren(...items);
+  const listed = new Map(placed.slice(0, SHOWN_PROBLEMS).map((one) => [keyOf(one), one]));
+  current = new Map([...listed].map(([key, { message }]) => [key, message]));
+  const wanted = [...listed].map(([key, one]) => [key, () => itemOf(key, one)]), more = all.length - SHOWN_PROBLEMS;
+  if (more > 0) wanted.push([more, () => h("li", { className: "place" }, `and ${more.toLocaleString("en")} more`)]);
+  items = showKept(at("problems"), items, wanted);
 }
 
-function showNumbers() {
-  const count = source.value.split("\n").length;
+/** What an item of the list shows. */
+function keyOf({ kind, message: { line, column, message, notes = [] }, place }) {
+  const told = notes.slice(0, SHOWN_NOTES).map((note) => `${note.line}:${note.column} ${note.message}`);
+  return [kind, line, column, message, ...Object.values(place), ...told, notes.length].join("\n");
+}
+
+/** An item of the list. It leads to where its problem stands when it is clicked. */
+function itemOf(key, { kind, message, place }) {
+  const now = () => current.get(key);
+  return h("li", {}, problem(kind, message, place, () => goTo(now())), ...notesOf(message, (note) => goTo(now().notes[note])));
+}
+
+function showNumbers(text) {
+  const count = text.split("\n").length;
   if (count === lineCount) return;
   lineCount = count;
   at("numbers").firstChild.data = Array.from({ length: count }, (_, index) => index + 1).join("\n");
@@ -42,16 +44,16 @@ function showNumbers() {
 
 /** Marks what is wrong, under the words and at the numbers of their lines. */
 function showMarks(placed) {
-  const marked = new Map(placed.map(([kind, { line }]) => [line, kind]).reverse());
-  const numbers = [...marked].map(([line, kind]) => h("b", { className: kind, style: topOf(line) }, String(line)));
-  at("numbers").replaceChildren(at("numbers").firstChild, ...numbers);
-  at("marks").replaceChildren(...placed.map(([kind, { line }, { before, word }]) =>
-    h("div", { className: kind, style: topOf(line) }, before, h("span", {}, word || " "))));
+  const marked = new Map(placed.map(({ kind, message }) => [message.line, kind]).reverse());
+  numbers = showKept(at("numbers"), numbers, [...marked].map(([line, kind]) =>
+    [`${kind} ${line}`, () => h("b", { className: kind, style: topOf(line) }, String(line))]));
+  marks = showKept(at("marks"), marks, placed.map(({ kind, message: { line }, place: { before, word } }) =>
+    [`${kind} ${line} ${before}\n${word}`, () => h("div", { className: kind, style: topOf(line) }, before, h("span", {}, word || " "))]));
 }
 
 /** The first line of a place: what stands before it, in it, and behind it. */
-function placeOf({ index, end }) {
-  const text = source.value, start = index === 0 ? 0 : text.lastIndexOf("\n", index - 1) + 1, found = text.indexOf("\n", index);
+function placeOf({ index, end }, text = source.value) {
+  const start = index === 0 ? 0 : text.lastIndexOf("\n", index - 1) + 1, found = text.indexOf("\n", index);
   const last = found < 0 ? text.length : found, behind = Math.min(end.index, last);
   return { before: text.slice(start, index), word: text.slice(index, behind), after: text.slice(behind, last) };
 }

@@ -66,10 +66,12 @@ export function letsOf(text) {
     ({ name, index, end: { index: end }, start, stop }));
 }
 
-/** The names that a text declares, but for `let`s and parameters, and where each is declared first. */
+/** Where a text declares names, but for `let`s and parameters. */
 export function declaredNames(text) {
-  const found = [...withoutComments(text).matchAll(DECLARED)].reverse();
-  return new Map(found.map(({ 0: words, 1: name, index }) => [name, index + words.length - name.length]));
+  return Array.from(withoutComments(text).matchAll(DECLARED), ({ 0: words, 1: name, index }) => {
+    const end = index + words.length;
+    return { name, index: end - name.length, end: { index: end } };
+  });
 }
 
 // Words that only one language has, with what WGSL writes. `$1` is a part of the word.

@@ -1,24 +1,38 @@
-// A worker that checks texts, so that a long one holds up no key. First it is sent the compiled module.
-import { check, initSync, standardAnswer } from "wgsl/calls";
-import { letsOf } from "page/wgsl";
+// A worker that reads and checks texts, so that a long one holds up no key. First it is sent the compiled module.
+import { SourceError, check, initSync, layouts, standardAnswer } from "wgsl/calls";
+import { declaredNames, foreignOf, leftOut, letsOf } from "page/wgsl";
 
 onmessage = ({ data }) => {
-  if (data instanceof WebAssembly.Module) initSync(data);
-  else postMessage(answerTo(data));
+  if (data instanceof WebAssembly.Module) return initSync(data);
+  const { text, expression } = data;
+  const answer = expression === undefined ? { ...laidOut(text), ...checked(text) } : typed(text, expression);
+  postMessage(answer, answer.parts ? [answer.parts.buffer] : []);
 };
 
-function answerTo({ text, expression }) {
+/** What a call answers to a text; nothing if it is out of memory. */
+function answered(call, text) {
   try {
-    return expression === undefined ? checked(text) : typed(text, expression);
+    return call(text);
   } catch (error) {
-    if (!(error instanceof RangeError)) reportError(error); // that is out of memory
+    if (error instanceof SourceError) return error.layouts;
+    if (!(error instanceof RangeError)) reportError(error);
     return {};
   }
 }
 
+/** What a text declares, what it lays out, errors or not, which structs these leave out, and which other language it looks like. */
+function laidOut(text) {
+  const told = answered(layouts, text), { structs = [], variables = [], errors = [], findings = [] } = told;
+  const isBroken = errors.length > 0, isEmpty = structs.length + variables.length === 0;
+  return {
+    structs, variables, errors, findings, isBroken, names: declaredNames(text),
+    broken: isBroken ? leftOut(text, told) : { count: 0, structs: [] }, foreign: isBroken && isEmpty ? foreignOf(text) : null,
+  };
+}
+
 /** The faults of a text, the types of its `let`s, and four numbers per expression: start, end, which of `kinds`, and declaration. */
 function checked(text) {
-  const { faults, parts } = check(text), numbers = new Int32Array(parts.length * 4), kinds = new Map(), places = new Map();
+  const { faults = [], parts = [] } = answered(check, text), numbers = new Int32Array(parts.length * 4), kinds = new Map(), places = new Map();
   for (const [at, { index, end, type, stage, declared }] of parts.entries()) {
     const key = `${stage} ${type}`;
     if (!kinds.has(key)) kinds.set(key, { type, stage, number: kinds.size });
@@ -39,7 +53,7 @@ function valueOf(type) {
 function typed(text, expression) {
   let name = "it";
   while (text.includes(name)) name += "_";
-  const before = `${text}\nfn ${name}() { _ = (`, start = before.length, { faults, parts } = check(`${before}${expression}\n); }`);
+  const before = `${text}\nfn ${name}() { _ = (`, start = before.length, { faults = [], parts = [] } = answered(check, `${before}${expression}\n); }`);
   const fault = faults.find(({ index }) => index >= start - 1), stop = start + expression.length;
   const whole = parts.find(({ index, end }) => index === start - 1 && end.index > stop);
   if (fault) return { outcome: { fault, at: Math.min(Math.max(fault.index - start, 0), expression.length) } };

@@ -4,7 +4,7 @@ use crate::source::{Refusal, Source};
 use std::path::Path;
 
 /// The name of a list; the source, and the function or the table whose texts are its names.
-const LISTS: [(&str, &str, [&str; 2]); 7] = [
+const LISTS: [(&str, &str, [&str; 2]); 9] = [
     ("SCALARS", "wgsl_syntax/src/scalar.rt", ["fn", "scalar_named"]),
     ("ACCESS_MODES", "wgsl_syntax/src/address.rt", ["fn", "access_named"]),
     ("SPACES", "wgsl_syntax/src/address.rt", ["fn", "space_named"]),
@@ -12,6 +12,8 @@ const LISTS: [(&str, &str, [&str; 2]); 7] = [
     ("FLAGS", "wgsl_syntax/src/attribute.rt", ["fn", "flag_named"]),
     ("BUILTIN_VALUES", "wgsl_syntax/src/builtin_value.rt", ["fn", "builtin_named"]),
     ("ATTRIBUTES", "wgsl_source/src/attribute.rt", ["fn", "attribute_named"]),
+    ("ENABLED", "wgsl_source/src/extension.rt", ["const", "ENABLED"]),
+    ("REQUIRED", "wgsl_source/src/extension.rt", ["const", "REQUIRED"]),
 ];
 
 /// The constants of the lists that the Rust source of a file has.

@@ -1,11 +1,13 @@
 //! The command `wgsl serve`: a language server over standard input and output (LSP 3.17).
 
+#[macro_use]
+mod json;
+
 mod completion;
 mod cursor;
 mod diagnostics;
 mod document;
 mod hover;
-mod json;
 mod lines;
 mod mend;
 mod references;
@@ -38,13 +40,6 @@ The initialization options can turn inlay hints off, each of which is on if it i
 Exit status: 0 if the client shut the server down, 1 if it didn't, or if a message has no header, 2 for wrong arguments.
 ";
 
-/// What comes from the client.
-pub enum Incoming {
-    Message(Message),
-    /// The input ended, or no message can be found in what is left of it.
-    End,
-}
-
 /// Runs the command with these words behind it.
 pub fn run(words: &[OsString]) -> ExitCode {
     if words.is_empty() || words == ["--stdio"] {
@@ -63,21 +58,14 @@ fn serve() -> ExitCode {
     Server::new(incoming, io::stdout().lock()).run()
 }
 
-/// Sends what comes on standard input, up to its end.
-fn receive(sender: &Sender<Incoming>) {
+/// Sends the messages on standard input, up to its end, or to where none can be found in what is left of it.
+fn receive(sender: &Sender<Message>) {
     let mut input = io::stdin().lock();
     loop {
-        let incoming = match wire::read(&mut input) {
-            Ok(Some(bytes)) => Incoming::Message(Message::of(&bytes)),
-            Ok(None) => Incoming::End,
-            Err(error) => {
-                eprintln!("wgsl: serve: {error}");
-                Incoming::End
-            }
-        };
-        let is_end = matches!(incoming, Incoming::End);
-        if sender.send(incoming).is_err() || is_end {
-            return;
+        match wire::read(&mut input) {
+            Ok(Some(bytes)) if sender.send(Message::of(&bytes)).is_ok() => {}
+            Err(error) => return eprintln!("wgsl: serve: {error}"),
+            Ok(_) => return,
         }
     }
 }

@@ -1,7 +1,7 @@
 //! JSON, as the language server reads and writes it.
 
 #[path = "../programs/serve/json.rs"]
-#[allow(dead_code)]
+#[allow(dead_code, unused_macros)]
 mod json;
 
 use json::Json;

@@ -2,14 +2,15 @@
 
 #[path = "../programs/serve/json.rs"]
 #[allow(dead_code)]
+#[macro_use]
 mod json;
 mod random;
 mod serving;
 mod tables;
 
-use json::{object, Json};
+use json::Json;
 use random::Random;
-use serving::{at, framed, opened, Client};
+use serving::{at, framed, opened, range, Client};
 use std::fs;
 use std::ops::Range;
 use std::process::{Command, Stdio};
@@ -25,66 +26,47 @@ fn position(of: &Json) -> String {
     format!("{line}:{character}")
 }
 
-/// The place of a range in a line, and the word there.
+/// A range: its beginning and the word there, or its ends in two lines.
 fn place(range: &Json, text: &str) -> String {
-    let number = |end: &str, name: &str| range[end][name].as_count().unwrap();
-    let line = text.split('\n').nth(number("start", "line")).unwrap();
-    let word = &line[number("start", "character")..number("end", "character")];
-    format!("{} {word}", position(&range["start"]))
+    let [start, end] = ["start", "end"].map(|end| &range[end]);
+    if start["line"] != end["line"] {
+        return format!("{}-{}", position(start), position(end));
+    }
+    let line = text.split('\n').nth(start["line"].as_count().unwrap()).unwrap();
+    let [start_of_word, end] = [start, end].map(|end| end["character"].as_count().unwrap());
+    format!("{} {}", position(start), &line[start_of_word..end])
 }
 
-/// An answer in short.
-fn shown(method: &str, answer: &Json, text: &str) -> String {
-    let word = |value: &Json, name: &str| value[name].as_text().unwrap_or("-").to_string();
-    let all = |items: &Json, each: &dyn Fn(&Json) -> String| {
-        items.as_list().iter().map(each).collect::<Vec<_>>().join("; ")
-    };
-    match method {
-        _ if *answer == Json::Null => "null".into(),
-        "hover" => {
-            let value =
-                word(&answer["contents"], "value").replace("```wgsl\n", "").replace("\n```", "");
-            format!(
-                "{}: {}",
-                place(&answer["range"], text),
-                value.replace("\n\n", " | ").replace('\n', " / ")
-            )
+/// An answer in short: places with the words there, and of a long list the first items.
+fn shown(answer: &Json, text: &str) -> String {
+    let all =
+        |items: &[Json]| items.iter().map(|of| shown(of, text)).collect::<Vec<_>>().join("; ");
+    match answer {
+        Json::Text(value) => {
+            let plain = value.replace("```wgsl\n", "").replace("\n```", "");
+            plain.replace("\n\n", " | ").replace('\n', " / ")
         }
-        "definition" => place(&answer["range"], text),
-        "references" => all(answer, &|of| place(&of["range"], text)),
-        "prepareRename" => place(answer, text),
-        "rename" => all(&answer["changes"]["file:///it.wgsl"], &|of| {
-            format!("{} -> {}", place(&of["range"], text), word(of, "newText"))
-        }),
-        "signatureHelp" => {
-            let signatures = answer["signatures"].as_list();
-            let argument = answer["activeParameter"].as_count().unwrap();
-            let label = word(&signatures[0], "label");
-            let parameter = signatures[0]["parameters"].as_list().get(argument);
-            let at = parameter.map(|of| of["label"].as_list().iter().filter_map(Json::as_count));
-            let at: Vec<usize> = at.into_iter().flatten().collect();
-            let parameter = at.get(1).map_or("-", |end| &label[at[0]..*end]);
-            format!("{label}, {parameter}, 1 of {}", signatures.len())
+        Json::List(items) if items.len() > 50 => {
+            format!("{} items: {}; ..", items.len(), all(&items[..3]))
         }
-        "completion" => {
-            let items = answer.as_list();
-            let first: Json = items.iter().take(3).cloned().collect();
-            let first = all(&first, &|of| format!("{} {}", word(of, "label"), word(of, "detail")));
-            format!("{} items: {first}", items.len())
+        Json::List(items) => all(items),
+        Json::Object(_) if answer.get("line").is_some() => position(answer),
+        Json::Object(_) if answer.get("start").is_some() => place(answer, text),
+        Json::Object(members) => {
+            let shown = members.iter().map(|(name, value)| match value {
+                Json::List(_) => format!("{name}=({})", shown(value, text)),
+                _ => format!("{name}={}", shown(value, text)),
+            });
+            shown.collect::<Vec<_>>().join(" ")
         }
-        "documentSymbol" => all(answer, &|of| {
-            let members =
-                all(&of["children"], &|of| format!("{} {}", word(of, "name"), word(of, "detail")));
-            let ends = ["start", "end"].map(|end| position(&of["range"][end]));
-            format!("{} ({members}) {} {}", word(of, "detail"), of["kind"], ends.join("-"))
-        }),
-        _ => all(answer, &|of| format!("{} {}", position(&of["position"]), word(of, "label"))),
+        _ => answer.to_string(),
     }
 }
 
+/// Each request has its answer; of completion also the items alone that begin with a word.
 #[test]
 fn requests_are_answered() {
-    let mut client = Client::start(&["utf-8"], Json::Null);
+    let mut client = Client::of_bytes();
     let mut wrong = Vec::new();
     for [name, method, cursor, answer] in tables::rows::<4>("tables/served.tsv") {
         let mut text = shader(&name);
@@ -92,20 +74,20 @@ fn requests_are_answered() {
         let (found, written) = cursor.split_once(" => ").unwrap_or((&plain, &cursor));
         let start = text.find(found).expect(&cursor);
         text.replace_range(start..start + found.len(), &written.replace('‸', ""));
-        let byte = start + written.find('‸').unwrap();
-        client.open("file:///it.wgsl", &text);
-        let whole = object([("start", at(&text, 0)), ("end", at(&text, text.len()))]);
-        let (called, new) = method.split_once(' ').unwrap_or((&method, ""));
-        let params = opened("file:///it.wgsl")
-            .with("position", Some(at(&text, byte)))
-            .with("range", Some(whole))
-            .with("newName", Some(new.into()))
-            .with("context", Some(object([("includeDeclaration", (new == "all").into())])));
+        let place = at(&text, start + written.find('‸').unwrap());
+        client.open("it", &text);
+        let (called, word) = method.split_once(' ').unwrap_or((&method, ""));
+        let params = opened("it")
+            .with("position", Some(place))
+            .with("range", Some(range(&text, &(0..text.len()))))
+            .with("newName", Some(word))
+            .with("context", Some(object! { "includeDeclaration": word == "all" }));
         let reply = client.request(&format!("textDocument/{called}"), params);
-        let found = match &reply["error"] {
-            Json::Null => shown(called, &reply["result"], &text),
-            error => format!("{} {}", error["code"], error["message"]),
-        };
+        let mut result = reply.get("result").unwrap_or(&reply["error"]).clone();
+        if let ("completion", Json::List(items)) = (called, &mut result) {
+            items.retain(|item| item["label"].as_text().unwrap().starts_with(word));
+        }
+        let found = shown(&result, &text);
         if found != answer {
             wrong.push(format!("{name}\t{method}\t{cursor}\t{found}"));
         }
@@ -117,67 +99,99 @@ fn requests_are_answered() {
 /// The faults of each module of the list are told as the check finds them.
 #[test]
 fn faults_are_told() {
-    let mut client = Client::start(&["utf-8"], Json::Null);
+    let mut client = Client::of_bytes();
     let list = fs::read_to_string("tests/modules/modules.txt").unwrap();
     for (version, quoted) in list.lines().filter_map(|line| line.rsplit('\t').next()).enumerate() {
         let text = quoted[1..quoted.len() - 1].replace("\\n", "\n").replace("\\\"", "\"");
         match version {
-            0 => client.open("file:///it.wgsl", &text),
-            _ => client.change("file:///it.wgsl", version, &text),
+            0 => client.open("it", &text),
+            _ => client.change("it", version, None, &text),
         }
-        let told = client.faults();
-        let faults = check(&text).faults;
-        let diagnostics = told["diagnostics"].as_list();
-        assert_eq!(diagnostics.len(), faults.len(), "{text}");
-        let range = |of: &Range<usize>| {
-            object([("start", at(&text, of.start)), ("end", at(&text, of.end))])
-        };
-        for (fault, told) in faults.iter().zip(diagnostics) {
-            assert_eq!(told["range"], range(&fault.bytes), "{text}");
-            assert_eq!(told["code"].as_text(), Some(&*fault.rule.word().replace(' ', "-")));
-            assert_eq!(told["severity"], 1.into());
-            let (related, here): (Vec<_>, Vec<_>) =
-                fault.notes.iter().partition(|note| note.bytes != fault.bytes);
-            let messages =
-                [&fault.message].into_iter().chain(here.iter().map(|note| &note.message));
-            let message = messages.map(String::as_str).collect::<Vec<_>>().join("\n");
-            assert_eq!(told["message"].as_text(), Some(&*message), "{text}");
-            let places = told["relatedInformation"].as_list().iter();
-            let places: Vec<_> = places
-                .map(|of| (of["location"]["range"].clone(), of["message"].as_text()))
-                .collect();
-            let notes: Vec<_> =
-                related.iter().map(|note| (range(&note.bytes), Some(&*note.message))).collect();
-            assert_eq!(places, notes, "{text}");
-        }
+        let expected = check(&text).faults.into_iter().map(|fault| {
+            let (here, related): (Vec<_>, Vec<_>) =
+                fault.notes.into_iter().partition(|note| note.bytes == fault.bytes);
+            let here = here.into_iter().map(|note| format!("\n{}", note.message));
+            let related = related.into_iter().map(|note| {
+                let location = object! { "uri": "it", "range": range(&text, &note.bytes) };
+                object! { "location": location, "message": note.message }
+            });
+            let related: Vec<Json> = related.collect();
+            object! {
+                "range": range(&text, &fault.bytes), "severity": 1,
+                "code": fault.rule.word().replace(' ', "-"), "source": "wgsl",
+                "message": fault.message + &here.collect::<String>(),
+            }
+            .with("relatedInformation", (!related.is_empty()).then_some(Json::List(related)))
+        });
+        assert_eq!(client.faults()["diagnostics"], expected.collect(), "{text}");
     }
-    client.tell("textDocument/didClose", opened("file:///it.wgsl"));
+    client.tell("textDocument/didClose", opened("it"));
     assert_eq!(client.faults()["diagnostics"], Json::List(Vec::new()));
     assert_eq!(client.end(), Some(0));
+}
+
+/// Of very many faults the first ones are told, and how many there are more.
+#[test]
+fn many_faults_are_cut() {
+    let mut client = Client::of_bytes();
+    let last_of_1000 = "`x` stands for no value";
+    for (count, told, last) in [(1000, 1000, last_of_1000), (1002, 1001, "and 2 more")] {
+        let lines = (0..count).map(|number| format!("const a{number} = x;\n"));
+        client.open("a", &lines.collect::<String>());
+        let faults = client.faults()["diagnostics"].clone();
+        assert_eq!(faults.as_list().len(), told);
+        let fault = &faults.as_list()[told - 1];
+        assert_eq!(fault["message"].as_text(), Some(last));
+        assert_eq!(fault["range"]["start"]["line"], (told - 1).into());
+    }
+}
+
+/// A client is sent what it says that it can read.
+#[test]
+fn capabilities_are_asked() {
+    let text = "const a = max(1, 2); const b = 1; const b = 2;";
+    let place = opened("a").with("position", Some(at(text, text.find("1,").unwrap())));
+    let plain = r#"{"textDocument": {"hover": {"contentFormat": ["plaintext"]}}}"#;
+    let fence = "```wgsl\n";
+    for (capabilities, kind, fence, label, notes) in [
+        (serving::BYTES, "markdown", fence, "[4, 5]", 1),
+        (plain, "plaintext", "", "\"T\"", 0),
+        ("{}", "plaintext", "", "\"T\"", 0),
+    ] {
+        let mut client = Client::start(capabilities, "null");
+        client.open("a", text);
+        let faults = client.faults()["diagnostics"].clone();
+        assert_eq!(faults.as_list()[0]["relatedInformation"].as_list().len(), notes);
+        let contents = client.ask("hover", place.clone())["contents"].clone();
+        assert_eq!(contents["kind"].as_text(), Some(kind));
+        let value = contents["value"].as_text().unwrap();
+        assert!(value.starts_with(&format!("{fence}1: AbstractInt")), "{value}");
+        let signatures = client.ask("signatureHelp", place.clone())["signatures"].clone();
+        let parameters = signatures.as_list()[0]["parameters"].clone();
+        assert_eq!(parameters.as_list()[0]["label"].to_string(), label);
+    }
 }
 
 /// Positions count bytes or units of UTF-16, and lines end as in the protocol.
 #[test]
 fn positions_are_negotiated() {
     let text = "/* é😀\u{2028} */ const a = 1;\r\nconst b = /*😀*/a;\rconst c = d;";
+    let start = |line: usize, character: usize| object! { "line": line, "character": character };
     for (encodings, encoding, columns) in [
-        (&["utf-32", "utf-8", "utf-16"][..], "utf-8", [22, 18]),
-        (&["utf-16", "utf-8"], "utf-16", [17, 16]),
-        (&[], "utf-16", [17, 16]),
+        (r#"["utf-32", "utf-8", "utf-16"]"#, "utf-8", [22, 18]),
+        (r#"["utf-16", "utf-8"]"#, "utf-16", [17, 16]),
+        ("[]", "utf-16", [17, 16]),
     ] {
+        let general = format!(r#"{{"general": {{"positionEncodings": {encodings}}}}}"#);
+        let params = object! { "capabilities": Json::read(&general).unwrap() };
         let mut client = Client::spawn();
-        let names: Json = encodings.iter().map(|name| Json::from(*name)).collect();
-        let general = object([("general", object([("positionEncodings", names)]))]);
-        let reply = client.request("initialize", object([("capabilities", general)]));
+        let reply = client.request("initialize", params);
         assert_eq!(reply["result"]["capabilities"]["positionEncoding"].as_text(), Some(encoding));
         client.open("a", text);
-        let start = |line: usize, character: usize| {
-            object([("line", line.into()), ("character", character.into())])
-        };
         assert_eq!(client.faults()["diagnostics"].as_list()[0]["range"]["start"], start(2, 10));
         let mut declared = |line, character| {
             let params = opened("a").with("position", Some(start(line, character)));
-            client.request("textDocument/definition", params)["result"]["range"]["start"].clone()
+            client.ask("definition", params)["range"]["start"].clone()
         };
         assert_eq!(declared(1, columns[1]), start(0, columns[0]), "{encoding}");
         // Behind the last character of a line is its end, and behind the last line that of the text.
@@ -245,7 +259,7 @@ fn messages_are_cut_anywhere() {
 /// Behind a document of ten megabytes a request waits, and is cancelled. The other document has its own faults.
 #[test]
 fn a_long_document_is_served() {
-    let mut client = Client::start(&[], Json::Null);
+    let mut client = Client::start("{}", "null");
     client.open("b", "const b = c;");
     assert_eq!(client.faults()["uri"].as_text(), Some("b"));
     let text = shader("tiled") + &"// Nothing is here.\n".repeat(500_000) + "const b = c;";
@@ -254,35 +268,33 @@ fn a_long_document_is_served() {
     let cancel = "\"method\":\"$/cancelRequest\",\"params\":{\"id\":\"it\"}";
     let messages = [request, cancel].map(|rest| framed(&format!("{{\"jsonrpc\":\"2.0\",{rest}}}")));
     client.write(&messages.concat());
-    let told = client.faults();
-    assert_eq!(
-        told["diagnostics"].as_list().last().unwrap()["range"]["start"],
-        at(&text, text.len() - 2)
-    );
+    let told = client.faults()["diagnostics"].clone();
+    assert_eq!(told.as_list().last().unwrap()["range"]["start"], at(&text, text.len() - 2));
     assert_eq!(client.read().unwrap()["error"]["code"].to_string(), "-32800");
-    let place = at(&text, text.len() - 6);
-    let reply = client.request("textDocument/hover", opened("a").with("position", Some(place)));
-    assert_ne!(reply["result"], Json::Null);
+    let place = opened("a").with("position", Some(at(&text, text.len() - 6)));
+    assert_ne!(client.ask("hover", place), Json::Null);
+    // Of a text that the next message changes no faults are told.
+    client.open("a", &text);
+    client.change("a", 2, None, "");
+    assert_eq!(client.faults()["version"], 2.into());
     assert_eq!(client.end(), Some(0));
 }
 
 #[test]
 fn hints_are_turned_off() {
     let text = "struct S { a: f32, b: vec3f } const c = 1;";
-    let whole = object([("start", at(text, 0)), ("end", at(text, text.len()))]);
     for (option, labels) in [
         ("types", "0:; 12 bytes of padding; 16:; 4 bytes of padding"),
         ("offsets", "12 bytes of padding; 4 bytes of padding; : AbstractInt"),
         ("paddings", "0:; 16:; : AbstractInt"),
     ] {
-        let options = object([("inlayHints", object([(option, false.into())]))]);
-        let mut client = Client::start(&[], options);
+        let mut client =
+            Client::start("{}", &format!(r#"{{"inlayHints": {{"{option}": false}}}}"#));
         client.open("a", text);
-        let reply = client
-            .request("textDocument/inlayHint", opened("a").with("range", Some(whole.clone())));
-        let found: Vec<_> =
-            reply["result"].as_list().iter().filter_map(|of| of["label"].as_text()).collect();
-        assert_eq!(found.join("; "), labels);
+        let params = opened("a").with("range", Some(range(text, &(0..text.len()))));
+        let hints = client.ask("inlayHint", params);
+        let found = hints.as_list().iter().filter_map(|of| of["label"].as_text());
+        assert_eq!(found.collect::<Vec<_>>().join("; "), labels);
     }
 }
 
@@ -314,84 +326,70 @@ fn arguments_are_read() {
 /// Each attribute is offered somewhere.
 #[test]
 fn attributes_are_complete() {
-    let mut client = Client::start(&["utf-8"], Json::Null);
+    let mut client = Client::of_bytes();
     let mut offered = Vec::new();
     for text in ["@", "struct S { @", "fn f(@", "fn f() { @"] {
         client.open("a", text);
         let params = opened("a").with("position", Some(at(text, text.len())));
-        let reply = client.request("textDocument/completion", params);
-        offered.extend(
-            reply["result"].as_list().iter().map(|of| of["label"].as_text().unwrap().to_string()),
-        );
+        let items = client.ask("completion", params);
+        offered.extend(items.as_list().iter().map(|of| of["label"].as_text().unwrap().to_string()));
     }
     offered.sort();
     offered.dedup();
     assert!(attributes().eq(offered.iter().map(String::as_str)), "{offered:?}");
 }
 
-/// A text with one edit more: bytes that go, a piece that comes from it or from the list, or the end that is missing.
-fn edited(random: &mut Random, text: &str) -> String {
-    const PIECES: [&str; 16] = [
-        "{", "}", "(", ")", ";", ",", "<", ">", "@", ".", "é", "#", "/*", "let x = ", "\n", "fn f(",
-    ];
-    let mut place = || {
-        let at = random.number(text.len() + 1);
-        (0..=at).rev().find(|at| text.is_char_boundary(*at)).unwrap()
+/// An edit: some bytes of a text, and what comes in their place, a piece of it or of the list, or nothing.
+fn edit(random: &mut Random, text: &str) -> (Range<usize>, String) {
+    const PIECES: &str = "{|}|(|)|;|,|<|>|@|.|é|#|/*|let x = |\n|fn f(";
+    let mut place = |most: usize| {
+        let byte = random.number(most + 1);
+        (0..=byte).rev().find(|byte| text.is_char_boundary(*byte)).unwrap()
     };
-    let [mut from, mut to, at] = [place(), place(), place()];
-    if from > to {
-        (from, to) = (to, from);
-    }
-    to = (from..=to.min(from + 40)).rev().find(|to| text.is_char_boundary(*to)).unwrap();
+    let (at, start) = (place(text.len()), place(text.len()));
+    let end = start.max(place((start + 40).min(text.len())));
+    let pieces: Vec<&str> = PIECES.split('|').collect();
     match random.number(8) {
-        0 | 1 => format!("{}{}", &text[..from], &text[to..]),
-        2 => format!("{}{}{}", &text[..at], &text[from..to], &text[at..]),
-        3 => text[..at.max(text.len() / 2 * usize::from(text.is_char_boundary(text.len() / 2)))]
-            .into(),
-        _ => format!("{}{}{}", &text[..at], PIECES[random.number(PIECES.len())], &text[at..]),
+        0 | 1 => (start..end, String::new()),
+        2 => (at..at, text[start..end].into()),
+        3 if at > text.len() / 2 => (at..text.len(), String::new()),
+        _ => (at..at, pieces[random.number(pieces.len())].into()),
     }
 }
 
-/// After any edits each answer is that of a server that has seen nothing else.
+/// After any edits, told as texts or as ranges, each answer is that of a server that has seen nothing else.
 #[test]
 fn answers_depend_on_the_text_alone() {
-    const METHODS: [&str; 9] = [
-        "hover",
-        "signatureHelp",
-        "completion",
-        "definition",
-        "references",
-        "prepareRename",
-        "rename",
-        "documentSymbol",
-        "inlayHint",
-    ];
+    const METHODS: &str =
+        "hover signatureHelp completion definition references prepareRename rename \
+                           documentSymbol inlayHint";
+    let methods: Vec<&str> = METHODS.split(' ').collect();
     let count = std::env::var("WGSL_EDITS").map_or(300, |count| count.parse().unwrap());
     let shaders = ["boids", "light", "scene", "tiled", "clustered"].map(shader);
-    let (mut random, mut client) = (Random::new(1), Client::start(&["utf-8"], Json::Null));
+    let (mut random, mut client) = (Random::new(1), Client::of_bytes());
     let mut text = String::new();
+    client.open("a", "");
+    client.faults();
     for version in 0..count {
-        text = if version % 20 == 0 {
-            shaders[version / 20 % 5].clone()
-        } else {
-            edited(&mut random, &text)
+        let (bytes, piece) = match version % 20 {
+            0 => (0..text.len(), shaders[version / 20 % 5].clone()),
+            _ => edit(&mut random, &text),
         };
-        let mut fresh = Client::start(&["utf-8"], Json::Null);
+        let place = (version % 2 == 1).then(|| range(&text, &bytes));
+        text.replace_range(bytes, &piece);
+        let told = if place.is_some() { &piece } else { &text };
+        client.change("a", version, place, told);
+        let mut fresh = Client::of_bytes();
         fresh.open("a", &text);
-        match version {
-            0 => client.open("a", &text),
-            _ => client.change("a", version, &text),
-        }
         let expected = fresh.faults()["diagnostics"].clone();
         assert_eq!(client.faults()["diagnostics"], expected, "{text}");
         let byte = random.number(text.len() + 1);
         let byte = (0..=byte).rev().find(|byte| text.is_char_boundary(*byte)).unwrap();
-        let method = format!("textDocument/{}", METHODS[random.number(METHODS.len())]);
-        let range = object([("start", at(&text, byte)), ("end", at(&text, text.len()))]);
+        let method = format!("textDocument/{}", methods[random.number(methods.len())]);
         let params = opened("a")
             .with("position", Some(at(&text, byte)))
-            .with("newName", Some("renamed".into()));
-        let params = params.with("range", Some(range));
+            .with("newName", Some("renamed"))
+            .with("range", Some(range(&text, &(byte..text.len()))));
         let [mine, other] =
             [&mut client, &mut fresh].map(|client| client.request(&method, params.clone()));
         for part in ["result", "error"] {

@@ -45,6 +45,7 @@ test("nothing is wider than the window, in any example, in light and dark", asyn
       await page.look({ width, height: 800, dark });
       for (const name of names) {
         await page.run(`{ const list = document.getElementById("examples"); list.value = ${JSON.stringify(name)}; list.dispatchEvent(new Event("change")) }`);
+        await page.until("document.documentElement.dataset.checked !== undefined");
         for (const request of ["clamp(vec3f, true, i32)", "layout struct S { a: f32, b: vec3 }", "overloads textureSampleLevel"]) {
           await page.run(ask(request));
           const wide = await page.run("document.documentElement.scrollWidth");

@@ -2,11 +2,11 @@
 
 use super::cursor::{Around, Cursor};
 use super::document::{Document, Module};
-use super::json::{object, Json};
+use super::json::Json;
 use super::mend::{mended, with_word, without_strange};
 use std::sync::OnceLock;
 use wgsl_types_proved::module::{Checked, Meaning, Name, Stage};
-use wgsl_types_proved::predeclared::{builtin_values, enumerants, functions, types};
+use wgsl_types_proved::predeclared::{builtin_values, enumerants, extensions, functions, types};
 use wgsl_types_proved::reader::{tokens, Kind::*};
 use wgsl_types_proved::standard::{overloads, type_of_member, Operand, Overload};
 use wgsl_types_proved::syntax::{AccessMode, AddressSpace, TexelFormat};
@@ -26,25 +26,10 @@ enum ItemKind {
     Type = 25,
 }
 
-const DECLARATIONS: [&str; 9] =
-    ["alias", "const", "const_assert", "enable", "fn", "override", "requires", "struct", "var"];
-
-const STATEMENTS: [&str; 14] = [
-    "break",
-    "const",
-    "const_assert",
-    "continue",
-    "continuing",
-    "discard",
-    "for",
-    "if",
-    "let",
-    "loop",
-    "return",
-    "switch",
-    "var",
-    "while",
-];
+const DECLARATIONS: &str = "alias const const_assert enable fn override requires struct var";
+const STATEMENTS: &str =
+    "break const const_assert continue continuing discard for if let loop return \
+     switch var while";
 
 /// The attributes, with how they are written, and what encloses them.
 const ATTRIBUTES: [(&str, &str, &[Around]); 16] = [
@@ -86,6 +71,7 @@ fn items(cursor: &Cursor, module: &Module, text: &str, byte: usize) -> Json {
     let types = types_in(module, byte);
     let values = values_in(module.checked(), byte);
     let enumerated = enumerants().map(enumerant);
+    let [enabled, required] = extensions();
     match (cursor.back(1), cursor.around) {
         (Period, _) => members(module, byte),
         (At, around) => attributes(around).collect(),
@@ -93,23 +79,25 @@ fn items(cursor: &Cursor, module: &Module, text: &str, byte: usize) -> Json {
             let value = |name| item(name, ItemKind::EnumMember, "built-in value");
             builtin_values().map(value).collect()
         }
-        (Colon, Around::Clauses) => values.chain(keywords(&STATEMENTS)).collect(),
+        (Enable | Comma, Around::Module) if cursor.listed() == Enable => extension_items(enabled),
+        (Requires | Comma, Around::Module) if cursor.listed() == Requires => {
+            extension_items(required)
+        }
+        (Colon, Around::Clauses) => values.chain(keywords(STATEMENTS)).collect(),
         (Arrow | Colon, _) => types.collect(),
         (Equal, _) if cursor.back(3) == Alias => types.collect(),
         (OpenTemplate | Less, _) if cursor.back(2) == Var => enumerated.collect(),
         (OpenTemplate, _) | (Comma, Around::Template) => types.chain(enumerated).collect(),
         (Less, _) if opens_list(cursor.text_back(2, text)) => types.chain(enumerated).collect(),
         (Semicolon | OpenCurly | CloseCurly | CloseRound | Name | End, Around::Module) => {
-            keywords(&DECLARATIONS).collect()
+            keywords(DECLARATIONS).collect()
         }
-        (Semicolon | OpenCurly | CloseCurly, Around::Clauses) => {
-            keywords(&["case", "default"]).collect()
-        }
+        (Semicolon | OpenCurly | CloseCurly, Around::Clauses) => keywords("case default").collect(),
         (Semicolon | OpenCurly | CloseCurly | CloseRound | Else, Around::Block) => {
-            values.chain(keywords(&STATEMENTS)).collect()
+            values.chain(keywords(STATEMENTS)).collect()
         }
         (_, Around::Parameters | Around::Members | Around::Header) => Json::List(Vec::new()),
-        (Fn | Struct | Alias | Let | Var | Const | Override | Enable | Requires, _)
+        (Fn | Struct | Alias | Let | Var | Const | Override, _)
         | (Name | Number | True | False | CloseSquare | CloseRound | CloseTemplate, _) => {
             Json::List(Vec::new())
         }
@@ -135,12 +123,12 @@ fn opens_list(name: &str) -> bool {
 }
 
 fn item(label: &str, kind: ItemKind, detail: &str) -> Json {
-    let detail = Some(detail).filter(|detail| !detail.is_empty()).map(Json::from);
-    object([("label", label.into()), ("kind", (kind as usize).into())]).with("detail", detail)
+    let detail = Some(detail).filter(|detail| !detail.is_empty());
+    object! { "label": label, "kind": kind as i32 }.with("detail", detail)
 }
 
-fn keywords(words: &'static [&str]) -> impl Iterator<Item = Json> {
-    words.iter().map(|word| item(word, ItemKind::Keyword, ""))
+fn keywords(words: &str) -> impl Iterator<Item = Json> + '_ {
+    words.split(' ').map(|word| item(word, ItemKind::Keyword, ""))
 }
 
 fn attributes(around: Around) -> impl Iterator<Item = Json> {
@@ -162,6 +150,10 @@ fn values_in(checked: &Checked, byte: usize) -> impl Iterator<Item = Json> + '_ 
     let names = checked.names_at(byte).into_iter().map(|name| named(checked, name));
     let (types, functions) = predeclared();
     names.chain(types.iter().chain(functions).cloned())
+}
+
+fn extension_items(names: Vec<&str>) -> Json {
+    names.into_iter().map(|name| item(name, ItemKind::EnumMember, "extension")).collect()
 }
 
 /// A name, with its type or its signature.
@@ -193,42 +185,80 @@ fn predeclared() -> &'static (Vec<Json>, Vec<Json>) {
             item(name, ItemKind::Function, &format!("{first}{more}"))
         });
         let types = types().map(|name| {
-            let alias = Type::predeclared(name).map(|ty| ty.to_string());
-            item(name, ItemKind::Type, &alias.filter(|ty| ty != name).unwrap_or_default())
+            let ty = Type::predeclared(name).map_or_else(|| generic(name), |ty| ty.to_string());
+            item(name, ItemKind::Type, if ty == name { "" } else { &ty })
         });
         (types.collect(), functions.collect())
     })
 }
 
-/// The members and the components of the expression in front of the `.` before a byte.
+/// A type that needs a template list, with what stands in that.
+fn generic(name: &str) -> String {
+    let list = match name {
+        "array" | "binding_array" => "type, count",
+        "ptr" => "space, type, access",
+        _ if name.starts_with("texture_storage") => "format, access",
+        _ => "type",
+    };
+    format!("{name}<{list}>")
+}
+
+/// The members and the components of the expression in front of the `.` before a byte, or if it has a fault, of what a name there
+/// is declared as.
 fn members(module: &Module, byte: usize) -> Json {
     let front = module.text[..byte].trim_end().len().saturating_sub(1);
-    let Some(ty) = module.checked().type_before(front) else { return Json::List(Vec::new()) };
-    match loaded(ty) {
-        Type::Struct(of) => {
-            let laid_out: Vec<_> = module.laid_out().collect();
-            let structure = module.checked().struct_named(&of.name);
-            let members = structure.map(|name| module.checked().members_of(name));
-            let members = members.into_iter().flatten().map(|member| {
-                let place = laid_out.iter().find(|(name, ..)| *name == member.name);
-                let place = place.map(|(.., member)| {
-                    format!(", offset {}, size {}", member.offset, member.size)
-                });
-                let detail = format!("{}{}", &module.text[member.ty], place.unwrap_or_default());
-                item(&module.text[member.name], ItemKind::Field, &detail)
-            });
-            members.collect()
-        }
-        Type::Vec(count, _) => {
-            let operand = Operand::new(ty.clone());
-            let components = components(usize::from(*count)).filter_map(|name| {
-                let component = type_of_member(&operand, &name).ok()?;
-                Some(item(&name, ItemKind::Field, &loaded(&component.ty).to_string()))
-            });
-            components.collect()
-        }
-        _ => Json::List(Vec::new()),
+    let (checked, found) = (module.checked(), module.checked().type_before(front));
+    let declared = if found.is_none() { declared_type(module, front) } else { None };
+    let name = match found.map(loaded) {
+        Some(Type::Struct(of)) => Some(of.name.as_str()),
+        _ => declared,
+    };
+    let structure = name.and_then(|name| checked.struct_named(name));
+    let ty = found.cloned().or_else(|| declared?.parse().ok());
+    match (structure, ty) {
+        (Some(structure), _) => members_of(module, structure),
+        (None, Some(ty)) => components_of(ty),
+        (None, None) => Json::List(Vec::new()),
     }
+}
+
+/// How the declaration of the name, or of the names with `.` between, in front of a byte says its type.
+fn declared_type(module: &Module, byte: usize) -> Option<&str> {
+    let (at, checked) = (module.index(byte).checked_sub(1)?, module.checked());
+    let word = module.tokens()[at];
+    let before = at.checked_sub(1).map(|before| module.tokens()[before]);
+    if let Some(period) = before.filter(|before| before.kind == Period) {
+        let structure = checked.struct_named(declared_type(module, period.at)?)?;
+        let members = checked.members_of(structure).into_iter();
+        let mut named =
+            members.filter(|of| module.text[of.name.clone()] == *word.text(&module.text));
+        return named.next().map(|member| &module.text[member.ty]);
+    }
+    let (_, declared) = module.head(&checked.declaration_at(word.at)?).split_once(':')?;
+    declared.split('=').next().map(str::trim)
+}
+
+fn members_of(module: &Module, structure: &Name) -> Json {
+    let laid_out: Vec<_> = module.laid_out().collect();
+    let members = module.checked().members_of(structure).into_iter().map(|member| {
+        let place = laid_out.iter().find(|(name, ..)| *name == member.name);
+        let place =
+            place.map(|(.., member)| format!(", offset {}, size {}", member.offset, member.size));
+        let detail = format!("{}{}", &module.text[member.ty], place.unwrap_or_default());
+        item(&module.text[member.name], ItemKind::Field, &detail)
+    });
+    members.collect()
+}
+
+/// The components of a vector; none of another type.
+fn components_of(ty: Type) -> Json {
+    let Type::Vec(count, _) = *loaded(&ty) else { return Json::List(Vec::new()) };
+    let operand = Operand::new(ty);
+    let components = components(usize::from(count)).filter_map(|name| {
+        let component = type_of_member(&operand, &name).ok()?;
+        Some(item(&name, ItemKind::Field, &loaded(&component.ty).to_string()))
+    });
+    components.collect()
 }
 
 /// What a reference or a pointer is to.

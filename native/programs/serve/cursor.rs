@@ -46,6 +46,12 @@ impl Cursor {
         token.map_or("", |token| token.text(text))
     }
 
+    /// The kind of the token in front of the names and the commas in front of the cursor.
+    pub fn listed(&self) -> Kind {
+        let mut front = (0..self.at).rev().map(|index| self.kind(index));
+        front.find(|kind| !matches!(kind, Name | Comma)).unwrap_or(End)
+    }
+
     fn kind(&self, index: usize) -> Kind {
         self.tokens.get(index).map_or(End, |token| token.kind)
     }

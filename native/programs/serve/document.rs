@@ -1,6 +1,6 @@
 //! A document that the client has opened, and what is known of it.
 
-use super::json::{object, Json};
+use super::json::Json;
 use super::lines::{Encoding, Lines};
 use super::mend::mended;
 use std::cell::OnceCell;
@@ -15,7 +15,7 @@ pub struct Document {
     pub uri: String,
     /// As the client counts.
     pub version: Json,
-    pub lines: Lines,
+    lines: Lines,
     /// The text as it is.
     pub written: Module,
     mended: OnceCell<Module>,
@@ -41,9 +41,39 @@ impl Document {
         }
     }
 
+    pub fn position(&self, byte: usize) -> Json {
+        self.lines.position(&self.written.text, byte)
+    }
+
+    pub fn range(&self, bytes: &Range<usize>) -> Json {
+        self.lines.range(&self.written.text, bytes)
+    }
+
     /// Bytes of it, as the client names them.
     pub fn location(&self, bytes: &Range<usize>) -> Json {
-        object([("uri", self.uri.as_str().into()), ("range", self.lines.range(bytes))])
+        object! { "uri": self.uri.as_str(), "range": self.range(bytes) }
+    }
+
+    pub fn byte(&self, position: &Json) -> Option<usize> {
+        self.lines.byte(&self.written.text, position)
+    }
+
+    pub fn bytes(&self, range: &Json) -> Option<Range<usize>> {
+        self.lines.bytes(&self.written.text, range)
+    }
+
+    /// The document after changes: each a text in place of a range of what is there, or of all. None if one can't be read.
+    pub fn changed(&self, changes: &[Json], version: Json, encoding: Encoding) -> Option<Document> {
+        let mut text = self.written.text.clone();
+        for change in changes {
+            let range = change.get("range").filter(|range| **range != Json::Null);
+            let bytes = match range {
+                Some(range) => Lines::of(&text, encoding).bytes(&text, range)?,
+                None => 0..text.len(),
+            };
+            text.replace_range(bytes, change["text"].as_text()?);
+        }
+        Some(Document::new(&self.uri, &text, version, encoding))
     }
 
     pub fn is_readable(&self) -> bool {

@@ -1,7 +1,7 @@
 //! What is shown at a byte: the type of the expression there, and the declaration to which its name refers.
 
 use super::document::{Document, Module};
-use super::json::{object, Json};
+use super::json::Json;
 use std::ops::Range;
 use wgsl_types_proved::module::Stage;
 use wgsl_types_proved::predeclared::types;
@@ -14,8 +14,8 @@ const MOST_OVERLOADS: usize = 8;
 /// How long an expression may be that is shown with its type.
 const MOST_BYTES: usize = 80;
 
-/// What is shown at a byte, or null.
-pub fn hover(document: &Document, byte: usize) -> Json {
+/// What is shown at a byte, in Markdown or as plain text; or null.
+pub fn hover(document: &Document, byte: usize, is_markdown: bool) -> Json {
     let module = document.module();
     let word = module.checked().word_at(byte);
     let expression = expression(module, word.as_ref().map_or(byte, |word| word.start));
@@ -24,8 +24,14 @@ pub fn hover(document: &Document, byte: usize) -> Json {
     let Some(bytes) = bytes else { return Json::Null };
     let mut blocks: Vec<String> = expression.map(|of| of.1).into_iter().chain(declared).collect();
     blocks.dedup();
-    let contents = object([("kind", "markdown".into()), ("value", blocks.join("\n\n").into())]);
-    object([("contents", contents), ("range", document.lines.range(&bytes))])
+    let text = blocks.join("\n\n");
+    let (kind, text) = match is_markdown {
+        true => ("markdown", text),
+        false => ("plaintext", text.replace("```wgsl\n", "").replace("\n```", "")),
+    };
+    object! {
+        "contents": object! { "kind": kind, "value": text }, "range": document.range(&bytes),
+    }
 }
 
 fn code(text: &str) -> String {

@@ -6,8 +6,15 @@ use std::ops::Index;
 /// How deep lists and objects may nest.
 pub const MAX_DEPTH: usize = 128;
 
+/// An object with these members, as JSON writes it.
+macro_rules! object {
+    ($($name:literal: $value:expr),* $(,)?) => {
+        Json::Object(vec![$(($name.into(), Json::from($value))),*])
+    };
+}
+
 /// A value.
-#[derive(Clone, Debug, PartialEq, Eq)]
+#[derive(Clone, PartialEq, Eq)]
 pub enum Json {
     Null,
     Bool(bool),
@@ -25,46 +32,38 @@ impl Json {
         let mut reader = Reader { text, at: 0 };
         let value = reader.value(0).ok_or(reader.at)?;
         reader.skip_blanks();
-        if reader.at < text.len() {
-            return Err(reader.at);
-        }
-        Ok(value)
+        Some(value).filter(|_| reader.at == text.len()).ok_or(reader.at)
     }
 
     /// The object with one more member, if there is a value for it.
-    pub fn with(mut self, name: &str, value: Option<Json>) -> Json {
+    pub fn with(mut self, name: &str, value: Option<impl Into<Json>>) -> Json {
         if let Json::Object(members) = &mut self {
-            members.extend(value.map(|value| (name.into(), value)));
+            members.extend(value.map(|value| (name.into(), value.into())));
         }
         self
     }
 
+    /// The member with a name.
+    pub fn get(&self, name: &str) -> Option<&Json> {
+        let Json::Object(members) = self else { return None };
+        members.iter().rev().find(|member| member.0 == name).map(|member| &member.1)
+    }
+
     pub fn as_text(&self) -> Option<&str> {
-        match self {
-            Json::Text(text) => Some(text),
-            _ => None,
-        }
+        let Json::Text(text) = self else { return None };
+        Some(text)
     }
 
     pub fn as_list(&self) -> &[Json] {
-        match self {
-            Json::List(items) => items,
-            _ => &[],
-        }
+        let Json::List(items) = self else { return &[] };
+        items
     }
 
     /// A number without a sign, fraction and exponent.
     pub fn as_count(&self) -> Option<usize> {
-        match self {
-            Json::Number(digits) => digits.parse().ok(),
-            _ => None,
-        }
+        let Json::Number(digits) = self else { return None };
+        digits.parse().ok()
     }
-}
-
-/// An object with these members.
-pub fn object<const COUNT: usize>(members: [(&str, Json); COUNT]) -> Json {
-    Json::Object(members.into_iter().map(|(name, value)| (name.into(), value)).collect())
 }
 
 /// The member with a name, or null.
@@ -72,8 +71,7 @@ impl Index<&str> for Json {
     type Output = Json;
 
     fn index(&self, name: &str) -> &Json {
-        let Json::Object(members) = self else { return &Json::Null };
-        members.iter().rev().find(|member| member.0 == name).map_or(&Json::Null, |member| &member.1)
+        self.get(name).unwrap_or(&Json::Null)
     }
 }
 
@@ -91,13 +89,21 @@ macro_rules! values {
 values! {
     bool: value => Json::Bool(value);
     usize: count => Json::Number(count.to_string());
+    i32: number => Json::Number(number.to_string());
     &str: text => Json::Text(text.into());
     String: text => Json::Text(text);
 }
 
-impl FromIterator<Json> for Json {
-    fn from_iter<Items: IntoIterator<Item = Json>>(items: Items) -> Json {
-        Json::List(items.into_iter().collect())
+/// The value, or null.
+impl<Value: Into<Json>> From<Option<Value>> for Json {
+    fn from(value: Option<Value>) -> Json {
+        value.map_or(Json::Null, Value::into)
+    }
+}
+
+impl<Value: Into<Json>> FromIterator<Value> for Json {
+    fn from_iter<Items: IntoIterator<Item = Value>>(items: Items) -> Json {
+        Json::List(items.into_iter().map(Value::into).collect())
     }
 }
 
@@ -256,34 +262,30 @@ impl Reader<'_> {
 
 impl fmt::Display for Json {
     fn fmt(&self, f: &mut fmt::Formatter<'_>) -> fmt::Result {
-        let comma = |index| if index > 0 { "," } else { "" };
         match self {
             Json::Null => f.write_str("null"),
             Json::Bool(value) => value.fmt(f),
             Json::Number(digits) => f.write_str(digits),
-            Json::Text(text) => write!(f, "{}", Quoted(text)),
-            Json::List(items) => {
-                f.write_str("[")?;
-                for (index, item) in items.iter().enumerate() {
-                    write!(f, "{}{item}", comma(index))?;
-                }
-                f.write_str("]")
-            }
-            Json::Object(members) => {
-                f.write_str("{")?;
-                for (index, (name, value)) in members.iter().enumerate() {
-                    write!(f, "{}{}:{value}", comma(index), Quoted(name))?;
-                }
-                f.write_str("}")
-            }
+            Json::Text(text) => write!(f, "{:?}", Quoted(text)),
+            Json::List(items) => f.debug_list().entries(items).finish(),
+            Json::Object(members) => f
+                .debug_map()
+                .entries(members.iter().map(|(name, value)| (Quoted(name), value)))
+                .finish(),
         }
+    }
+}
+
+impl fmt::Debug for Json {
+    fn fmt(&self, f: &mut fmt::Formatter<'_>) -> fmt::Result {
+        fmt::Display::fmt(self, f)
     }
 }
 
 /// A text as JSON writes it.
 struct Quoted<'t>(&'t str);
 
-impl fmt::Display for Quoted<'_> {
+impl fmt::Debug for Quoted<'_> {
     fn fmt(&self, f: &mut fmt::Formatter<'_>) -> fmt::Result {
         f.write_str("\"")?;
         let is_escaped = |c: char| c < ' ' || matches!(c, '"' | '\\');

@@ -1,7 +1,7 @@
 //! Where names are declared and used, and other names for them.
 
 use super::document::Document;
-use super::json::{object, Json};
+use super::json::Json;
 use super::wire::{ErrorCode, Refused};
 use std::ops::Range;
 use wgsl_types_proved::module::check;
@@ -9,8 +9,7 @@ use wgsl_types_proved::reader::{tokens, Kind};
 
 /// Where the name at a byte is declared, or null.
 pub fn definition(document: &Document, byte: usize) -> Json {
-    let declared = document.module().checked().declaration_at(byte);
-    declared.map_or(Json::Null, |bytes| document.location(&bytes))
+    document.module().checked().declaration_at(byte).map(|bytes| document.location(&bytes)).into()
 }
 
 /// Where the name at a byte is used.
@@ -26,7 +25,7 @@ pub fn references(document: &Document, byte: usize, with_declaration: bool) -> J
 pub fn prepare_rename(document: &Document, byte: usize) -> Json {
     let checked = document.module().checked();
     let word = checked.declaration_at(byte).and_then(|_| checked.word_at(byte));
-    word.map_or(Json::Null, |bytes| document.lines.range(&bytes))
+    word.map(|bytes| document.range(&bytes)).into()
 }
 
 /// The edits that give the name at a byte another one.
@@ -47,10 +46,9 @@ pub fn rename(document: &Document, byte: usize, new: &str) -> Result<Json, Refus
     if !keeps_uses(&module.text, &declared, &uses, new) {
         return refuse(format!("`{new}` has another meaning here"));
     }
-    let edits = uses
-        .iter()
-        .map(|bytes| object([("range", document.lines.range(bytes)), ("newText", new.into())]));
-    Ok(object([("changes", object([(&document.uri, edits.collect())]))]))
+    let edit = |bytes| object! { "range": document.range(bytes), "newText": new };
+    let changes = Json::Object(vec![(document.uri.clone(), uses.iter().map(edit).collect())]);
+    Ok(object! { "changes": changes })
 }
 
 /// Whether a text is one name.

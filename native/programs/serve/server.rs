@@ -4,13 +4,12 @@ use super::completion::completion;
 use super::diagnostics::diagnostics;
 use super::document::Document;
 use super::hover::hover;
-use super::json::{object, Json};
+use super::json::Json;
 use super::lines::Encoding;
 use super::references::{definition, prepare_rename, references, rename};
 use super::signature::signature_help;
 use super::symbols::{document_symbols, inlay_hints, HintOptions};
 use super::wire::{notify, respond, ErrorCode, Message, Refused};
-use super::Incoming;
 use std::collections::{BTreeMap, BTreeSet, VecDeque};
 use std::io::{self, Write};
 use std::process::ExitCode;
@@ -24,19 +23,47 @@ enum State {
     ShutDown,
 }
 
-/// What the client asked for when it initialized the server.
+/// What the client can do, and what it asked for, when it initialized the server.
 struct Options {
     encoding: Encoding,
     has_related: bool,
+    has_offsets: bool,
+    is_markdown: bool,
+    prepares: bool,
     hints: HintOptions,
+}
+
+impl Options {
+    fn of(params: &Json) -> Options {
+        let (general, client) =
+            (&params["capabilities"]["general"], &params["capabilities"]["textDocument"]);
+        let known = |name: &Json| match name.as_text()? {
+            "utf-8" => Some(Encoding::Utf8),
+            "utf-16" => Some(Encoding::Utf16),
+            _ => None,
+        };
+        let encoding = general["positionEncodings"].as_list().iter().find_map(known);
+        let formats = client["hover"]["contentFormat"].as_list();
+        let parameters = &client["signatureHelp"]["signatureInformation"]["parameterInformation"];
+        let is_on = |name| params["initializationOptions"]["inlayHints"][name] != false.into();
+        let [types, offsets, paddings] = ["types", "offsets", "paddings"].map(is_on);
+        Options {
+            encoding: encoding.unwrap_or(Encoding::Utf16),
+            has_related: client["publishDiagnostics"]["relatedInformation"] == true.into(),
+            has_offsets: parameters["labelOffsetSupport"] == true.into(),
+            is_markdown: formats.iter().any(|format| format.as_text() == Some("markdown")),
+            prepares: client["rename"]["prepareSupport"] == true.into(),
+            hints: HintOptions { types, offsets, paddings },
+        }
+    }
 }
 
 /// A server that writes to an output.
 pub struct Server<Output> {
-    incoming: Receiver<Incoming>,
+    incoming: Receiver<Message>,
     output: Output,
     /// What has come, and isn't handled yet.
-    queue: VecDeque<Incoming>,
+    queue: VecDeque<Message>,
     state: State,
     options: Options,
     documents: BTreeMap<String, Document>,
@@ -45,14 +72,13 @@ pub struct Server<Output> {
 }
 
 impl<Output: Write> Server<Output> {
-    pub fn new(incoming: Receiver<Incoming>, output: Output) -> Self {
-        let hints = HintOptions { types: true, offsets: true, paddings: true };
+    pub fn new(incoming: Receiver<Message>, output: Output) -> Self {
         Server {
             incoming,
             output,
             queue: VecDeque::new(),
             state: State::Started,
-            options: Options { encoding: Encoding::Utf16, has_related: false, hints },
+            options: Options::of(&Json::Null),
             documents: BTreeMap::new(),
             untold: BTreeSet::new(),
         }
@@ -68,26 +94,20 @@ impl<Output: Write> Server<Output> {
         loop {
             self.queue.extend(self.incoming.try_iter());
             self.tell_faults()?;
-            let next = match self.queue.pop_front() {
-                Some(next) => next,
-                None => self.incoming.recv().unwrap_or(Incoming::End),
-            };
+            let next = self.queue.pop_front().or_else(|| self.incoming.recv().ok());
             match next {
-                Incoming::Message(Message::Request { id, method, params }) => {
+                Some(Message::Request { id, method, params }) => {
                     let result = self.result(&id, &method, &params);
                     respond(&mut self.output, id, result)?;
                 }
-                Incoming::Message(Message::Notification { method, params }) => {
-                    if method == "exit" {
-                        return Ok(());
-                    }
-                    self.note(&method, params)?;
+                Some(Message::Notification { method, params }) if method != "exit" => {
+                    self.note(&method, &params)?;
                 }
-                Incoming::Message(Message::Invalid(refused)) => {
+                Some(Message::Invalid(refused)) => {
                     respond(&mut self.output, Json::Null, Err(refused))?;
                 }
-                Incoming::Message(Message::Response) => {}
-                Incoming::End => return Ok(()),
+                Some(Message::Response) => {}
+                Some(Message::Notification { .. }) | None => return Ok(()),
             }
         }
     }
@@ -130,58 +150,38 @@ impl<Output: Write> Server<Output> {
 
     fn initialize(&mut self, params: &Json) -> Json {
         self.state = State::Initialized;
-        let client = &params["capabilities"];
-        let encodings = client["general"]["positionEncodings"].as_list().iter();
-        let known = |name: &Json| match name.as_text()? {
-            "utf-8" => Some(Encoding::Utf8),
-            "utf-16" => Some(Encoding::Utf16),
-            _ => None,
-        };
-        let hints = &params["initializationOptions"]["inlayHints"];
-        let is_on = |name| hints[name] != false.into();
-        self.options = Options {
-            encoding: encodings.filter_map(known).next().unwrap_or(Encoding::Utf16),
-            has_related: client["textDocument"]["publishDiagnostics"]["relatedInformation"]
-                == true.into(),
-            hints: HintOptions {
-                types: is_on("types"),
-                offsets: is_on("offsets"),
-                paddings: is_on("paddings"),
-            },
-        };
-        let prepares = client["textDocument"]["rename"]["prepareSupport"] == true.into();
-        let version = env!("CARGO_PKG_VERSION").into();
-        object([
-            ("capabilities", capabilities(self.options.encoding, prepares)),
-            ("serverInfo", object([("name", "wgsl".into()), ("version", version)])),
-        ])
+        self.options = Options::of(params);
+        object! {
+            "capabilities": capabilities(&self.options),
+            "serverInfo": object! { "name": "wgsl", "version": env!("CARGO_PKG_VERSION") },
+        }
     }
 
     /// What the client tells of its documents.
-    fn note(&mut self, method: &str, params: Json) -> io::Result<()> {
-        if self.state != State::Initialized {
-            return Ok(());
-        }
+    fn note(&mut self, method: &str, params: &Json) -> io::Result<()> {
         let document = &params["textDocument"];
-        let Some(uri) = document["uri"].as_text() else { return Ok(()) };
-        let changes = params["contentChanges"].as_list();
-        let text = match method {
-            "textDocument/didOpen" => document["text"].as_text(),
-            "textDocument/didChange" if self.documents.contains_key(uri) => changes
-                .last()
-                .filter(|last| last["range"] == Json::Null)
-                .and_then(|last| last["text"].as_text()),
+        let Some(uri) = document["uri"].as_text().filter(|_| self.state == State::Initialized)
+        else {
+            return Ok(());
+        };
+        let (version, encoding) = (document["version"].clone(), self.options.encoding);
+        let changed = match (method, self.documents.get(uri)) {
+            ("textDocument/didOpen", _) => {
+                document["text"].as_text().map(|text| Document::new(uri, text, version, encoding))
+            }
+            ("textDocument/didChange", Some(before)) => {
+                before.changed(params["contentChanges"].as_list(), version, encoding)
+            }
+            ("textDocument/didClose", Some(_)) => {
+                self.documents.remove(uri);
+                let none = object! { "uri": uri, "diagnostics": Json::List(Vec::new()) };
+                return notify(&mut self.output, "textDocument/publishDiagnostics", none);
+            }
             _ => None,
         };
-        if let Some(text) = text {
-            let version = document["version"].clone();
-            let opened = Document::new(uri, text, version, self.options.encoding);
-            self.documents.insert(uri.into(), opened);
+        if let Some(document) = changed {
+            self.documents.insert(uri.into(), document);
             self.untold.insert(uri.into());
-        }
-        if method == "textDocument/didClose" && self.documents.remove(uri).is_some() {
-            let none = object([("uri", uri.into()), ("diagnostics", Json::List(Vec::new()))]);
-            notify(&mut self.output, "textDocument/publishDiagnostics", none)?;
         }
         Ok(())
     }
@@ -190,11 +190,11 @@ impl<Output: Write> Server<Output> {
         let invalid = |text: &str| Refused(ErrorCode::InvalidParams, text.into());
         let uri = params["textDocument"]["uri"].as_text().unwrap_or_default();
         let document = || self.documents.get(uri).ok_or(invalid("no such document is open"));
-        let byte = |position: &Json| document()?.lines.byte(position).ok_or(invalid("no position"));
-        let at = || byte(&params["position"]);
+        let at = || document()?.byte(&params["position"]).ok_or(invalid("no position"));
+        let options = &self.options;
         Ok(match method {
-            "textDocument/hover" => hover(document()?, at()?),
-            "textDocument/signatureHelp" => signature_help(document()?, at()?),
+            "textDocument/hover" => hover(document()?, at()?, options.is_markdown),
+            "textDocument/signatureHelp" => signature_help(document()?, at()?, options.has_offsets),
             "textDocument/completion" => completion(document()?, at()?),
             "textDocument/definition" => definition(document()?, at()?),
             "textDocument/references" => {
@@ -208,8 +208,8 @@ impl<Output: Write> Server<Output> {
             }
             "textDocument/documentSymbol" => document_symbols(document()?),
             "textDocument/inlayHint" => {
-                let range = byte(&params["range"]["start"])?..byte(&params["range"]["end"])?;
-                inlay_hints(document()?, &range, self.options.hints)
+                let range = document()?.bytes(&params["range"]).ok_or(invalid("no range"))?;
+                inlay_hints(document()?, &range, options.hints)
             }
             _ => return Err(Refused(ErrorCode::MethodNotFound, format!("no method {method}"))),
         })
@@ -217,39 +217,39 @@ impl<Output: Write> Server<Output> {
 }
 
 /// The document that a waiting message changes or closes.
-fn document_of_note(incoming: &Incoming) -> Option<&str> {
-    let Incoming::Message(Message::Notification { method, params }) = incoming else { return None };
+fn document_of_note(message: &Message) -> Option<&str> {
+    let Message::Notification { method, params } = message else { return None };
     let is_change = matches!(method.as_str(), "textDocument/didChange" | "textDocument/didClose");
     params["textDocument"]["uri"].as_text().filter(|_| is_change)
 }
 
-fn cancels(incoming: &Incoming, id: &Json) -> bool {
-    match incoming {
-        Incoming::Message(Message::Notification { method, params }) => {
-            method == "$/cancelRequest" && params["id"] == *id
-        }
-        _ => false,
-    }
+fn cancels(message: &Message, id: &Json) -> bool {
+    matches!(message, Message::Notification { method, params }
+        if method == "$/cancelRequest" && params["id"] == *id)
 }
 
-fn capabilities(encoding: Encoding, prepares: bool) -> Json {
-    let texts = |texts: &[&str]| texts.iter().map(|text| Json::from(*text)).collect::<Json>();
-    let encoding = match encoding {
+fn capabilities(options: &Options) -> Json {
+    let triggers = |texts: &[&str]| {
+        object! { "triggerCharacters": texts.iter().copied().collect::<Json>() }
+    };
+    let encoding = match options.encoding {
         Encoding::Utf8 => "utf-8",
         Encoding::Utf16 => "utf-16",
     };
-    let full = 1.into();
-    let rename = if prepares { object([("prepareProvider", true.into())]) } else { true.into() };
-    object([
-        ("positionEncoding", encoding.into()),
-        ("textDocumentSync", object([("openClose", true.into()), ("change", full)])),
-        ("hoverProvider", true.into()),
-        ("signatureHelpProvider", object([("triggerCharacters", texts(&["(", ","]))])),
-        ("completionProvider", object([("triggerCharacters", texts(&[".", "@", "<"]))])),
-        ("definitionProvider", true.into()),
-        ("referencesProvider", true.into()),
-        ("renameProvider", rename),
-        ("documentSymbolProvider", true.into()),
-        ("inlayHintProvider", true.into()),
-    ])
+    let rename = match options.prepares {
+        true => object! { "prepareProvider": true },
+        false => true.into(),
+    };
+    object! {
+        "positionEncoding": encoding,
+        "textDocumentSync": object! { "openClose": true, "change": 1 },
+        "hoverProvider": true,
+        "signatureHelpProvider": triggers(&["(", ","]),
+        "completionProvider": triggers(&[".", "@", "<"]),
+        "definitionProvider": true,
+        "referencesProvider": true,
+        "renameProvider": rename,
+        "documentSymbolProvider": true,
+        "inlayHintProvider": true,
+    }
 }

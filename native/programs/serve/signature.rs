@@ -1,14 +1,14 @@
 //! The call around a cursor, with the overload that fits and the parameter that the cursor is in.
 
 use super::document::Document;
-use super::json::{object, Json};
+use super::json::Json;
 use super::mend::{mended, with_word};
 use wgsl_types_proved::module::check;
 use wgsl_types_proved::reader::Kind;
 use wgsl_types_proved::standard::Overload;
 
-/// The signatures of the call around a byte, that which fits first, or null.
-pub fn signature_help(document: &Document, byte: usize) -> Json {
+/// The signatures of the call around a byte, that which fits first, or null. If the client reads no offsets, parameters have their texts.
+pub fn signature_help(document: &Document, byte: usize, has_offsets: bool) -> Json {
     let found = document.written.checked().signature_at(byte);
     let typed = || {
         let text = with_word(&document.written.text, byte..byte, operand(document, byte));
@@ -19,22 +19,21 @@ pub fn signature_help(document: &Document, byte: usize) -> Json {
     let Some(mut call) = found else { return Json::Null };
     let fitting = call.fitting.unwrap_or(0).min(call.overloads.len() - 1);
     call.overloads[..=fitting].rotate_right(1);
-    object([
-        ("signatures", call.overloads.iter().map(signature).collect()),
-        ("activeSignature", 0.into()),
-        ("activeParameter", call.argument.into()),
-    ])
+    let signatures = call.overloads.iter().map(|overload| signature(overload, has_offsets));
+    object! {
+        "signatures": signatures.collect::<Json>(), "activeSignature": 0, "activeParameter": call.argument,
+    }
 }
 
-/// An overload, with the places of its parameters in units of UTF-16.
-fn signature(overload: &Overload) -> Json {
+/// An overload, with its parameters: their places in units of UTF-16, or their texts.
+fn signature(overload: &Overload, has_offsets: bool) -> Json {
     let text = overload.text.as_str();
-    let units = |byte: usize| Json::from(text[..byte].encode_utf16().count());
-    let parameters = overload
-        .parameters()
-        .into_iter()
-        .map(|at| object([("label", Json::List(vec![units(at.start), units(at.end)]))]));
-    object([("label", text.into()), ("parameters", parameters.collect())])
+    let units = |byte: usize| text[..byte].encode_utf16().count();
+    let parameters = overload.parameters().into_iter().map(|at| match has_offsets {
+        true => object! { "label": [at.start, at.end].map(units).into_iter().collect::<Json>() },
+        false => object! { "label": &text[at] },
+    });
+    object! { "label": text, "parameters": parameters.collect::<Json>() }
 }
 
 /// The operand that is missing at a byte: none behind an operand, a bracket and a comma.

@@ -1,7 +1,7 @@
 //! The declarations of a document, and what they leave out: the types of names, the offsets and the paddings of members.
 
 use super::document::{Document, Module};
-use super::json::{object, Json};
+use super::json::Json;
 use std::ops::Range;
 use wgsl_types_proved::module::Name;
 
@@ -26,11 +26,8 @@ enum SymbolKind {
 /// The declarations of the module, structs with their members.
 pub fn document_symbols(document: &Document) -> Json {
     let module = document.module();
-    module
-        .declared()
-        .into_iter()
-        .map(|(name, bytes)| symbol(document, module, name, &bytes))
-        .collect()
+    let declared = module.declared().into_iter();
+    declared.map(|(name, bytes)| symbol(document, module, name, &bytes)).collect()
 }
 
 fn symbol(document: &Document, module: &Module, name: &Name, bytes: &Range<usize>) -> Json {
@@ -44,40 +41,18 @@ fn symbol(document: &Document, module: &Module, name: &Name, bytes: &Range<usize
     };
     let members = module.checked().members_of(name).into_iter().map(|member| {
         let whole = member.name.start..member.ty.end;
-        let text = &module.text[member.name.clone()];
-        let ty = &module.text[member.ty];
-        described(
-            document,
-            text,
-            ty,
-            SymbolKind::Field,
-            &whole,
-            &member.name,
-            Json::List(Vec::new()),
-        )
+        object! {
+            "name": &module.text[member.name.clone()], "detail": &module.text[member.ty],
+            "kind": SymbolKind::Field as i32,
+            "range": document.range(&whole), "selectionRange": document.range(&member.name),
+        }
     });
-    let whole = module.declaration(bytes);
     let head = head.split_whitespace().collect::<Vec<_>>().join(" ");
-    described(document, &name.text, &head, kind, &whole, bytes, members.collect())
-}
-
-fn described(
-    document: &Document,
-    name: &str,
-    detail: &str,
-    kind: SymbolKind,
-    whole: &Range<usize>,
-    bytes: &Range<usize>,
-    children: Json,
-) -> Json {
-    object([
-        ("name", name.into()),
-        ("detail", detail.into()),
-        ("kind", (kind as usize).into()),
-        ("range", document.lines.range(whole)),
-        ("selectionRange", document.lines.range(bytes)),
-        ("children", children),
-    ])
+    object! {
+        "name": name.text.as_str(), "detail": head, "kind": kind as i32,
+        "range": document.range(&module.declaration(bytes)), "selectionRange": document.range(bytes),
+        "children": members.collect::<Json>(),
+    }
 }
 
 /// The hints within some bytes.
@@ -99,17 +74,13 @@ pub fn inlay_hints(document: &Document, within: &Range<usize>, options: HintOpti
     }
     hints.retain(|(byte, ..)| within.start <= *byte && *byte <= within.end);
     hints.sort();
-    hints
-        .into_iter()
-        .map(|(byte, label, is_front)| {
-            let is_type = label.starts_with(':');
-            object([
-                ("position", document.lines.position(byte)),
-                ("label", label.into()),
-                ("paddingLeft", (!is_front && !is_type).into()),
-                ("paddingRight", is_front.into()),
-            ])
-            .with("kind", is_type.then(|| 1.into()))
-        })
-        .collect()
+    let hints = hints.into_iter().map(|(byte, label, is_front)| {
+        let is_type = label.starts_with(':');
+        let hint = object! {
+            "position": document.position(byte), "label": label,
+            "paddingLeft": !is_front && !is_type, "paddingRight": is_front,
+        };
+        hint.with("kind", is_type.then_some(1))
+    });
+    hints.collect()
 }

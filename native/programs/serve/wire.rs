@@ -1,6 +1,6 @@
 //! Messages as bytes: a header with the length, and JSON (LSP, "Base Protocol").
 
-use super::json::{object, Json};
+use super::json::Json;
 use std::io::{self, BufRead, Read, Write};
 
 /// The longest line of a header, and the longest message.
@@ -37,34 +37,22 @@ impl Message {
     /// The message that the bytes behind a header are.
     pub fn of(bytes: &[u8]) -> Message {
         let text = std::str::from_utf8(bytes).map_err(|error| error.valid_up_to());
-        let mut message = match text.and_then(Json::read) {
+        let message = match text.and_then(Json::read) {
             Ok(message) => message,
             Err(at) => {
                 let text = format!("this is no JSON from byte {at} on");
                 return Message::Invalid(Refused(ErrorCode::Parse, text));
             }
         };
-        let invalid = || Message::Invalid(Refused(ErrorCode::InvalidRequest, "no request".into()));
-        let Json::Object(members) = &mut message else { return invalid() };
-        let mut take = |name| {
-            let index = members.iter().rposition(|member| member.0 == name)?;
-            Some(members.swap_remove(index).1)
-        };
-        let (version, id, method) = (take("jsonrpc"), take("id"), take("method"));
-        let params = take("params").unwrap_or(Json::Null);
-        let is_response = take("result").or(take("error")).is_some();
-        match (version, id, method) {
-            (Some(Json::Text(version)), ..) if version != "2.0" => invalid(),
-            (
-                Some(Json::Text(_)),
-                Some(id @ (Json::Number(_) | Json::Text(_))),
-                Some(Json::Text(method)),
-            ) => Message::Request { id, method, params },
-            (Some(Json::Text(_)), None, Some(Json::Text(method))) => {
-                Message::Notification { method, params }
+        let is_response = message.get("result").or(message.get("error")).is_some();
+        let (method, params) = (message["method"].as_text(), message["params"].clone());
+        match (message["jsonrpc"].as_text(), message.get("id"), method.map(String::from)) {
+            (Some("2.0"), Some(id @ (Json::Number(_) | Json::Text(_))), Some(method)) => {
+                Message::Request { id: id.clone(), method, params }
             }
-            (Some(Json::Text(_)), Some(_), None) if is_response => Message::Response,
-            _ => invalid(),
+            (Some("2.0"), None, Some(method)) => Message::Notification { method, params },
+            (Some("2.0"), Some(_), None) if is_response => Message::Response,
+            _ => Message::Invalid(Refused(ErrorCode::InvalidRequest, "no request".into())),
         }
     }
 }
@@ -102,31 +90,24 @@ fn broken(text: &str) -> io::Error {
     io::Error::new(io::ErrorKind::InvalidData, text)
 }
 
-/// Writes a message with these members.
-fn write<const COUNT: usize>(
-    output: &mut impl Write,
-    members: [(&str, Json); COUNT],
-) -> io::Result<()> {
-    let Json::Object(mut all) = object(members) else { return Ok(()) };
-    all.insert(0, ("jsonrpc".into(), "2.0".into()));
-    let text = Json::Object(all).to_string();
+fn write(output: &mut impl Write, message: Json) -> io::Result<()> {
+    let text = message.with("jsonrpc", Some("2.0")).to_string();
     write!(output, "Content-Length: {}\r\n\r\n{text}", text.len())?;
     output.flush()
 }
 
 /// Answers a request.
 pub fn respond(output: &mut impl Write, id: Json, result: Result<Json, Refused>) -> io::Result<()> {
-    match result {
-        Ok(result) => write(output, [("id", id), ("result", result)]),
+    let answer = match result {
+        Ok(result) => object! { "id": id, "result": result },
         Err(Refused(code, text)) => {
-            let code = Json::Number((code as i32).to_string());
-            let error = object([("code", code), ("message", text.into())]);
-            write(output, [("id", id), ("error", error)])
+            object! { "id": id, "error": object! { "code": code as i32, "message": text } }
         }
-    }
+    };
+    write(output, answer)
 }
 
 /// Tells the client something.
 pub fn notify(output: &mut impl Write, method: &str, params: Json) -> io::Result<()> {
-    write(output, [("method", method.into()), ("params", params)])
+    write(output, object! { "method": method, "params": params })
 }

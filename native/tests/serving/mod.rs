@@ -1,16 +1,21 @@
 //! A client of `wgsl serve`.
 
-use crate::json::{object, Json};
+use crate::json::Json;
 use std::io::{BufRead, BufReader, Read, Write};
+use std::ops::Range;
 use std::process::{Child, ChildStdin, ChildStdout, Command, Stdio};
 
-/// A server that runs, and what it has told.
+/// What an editor can do that counts bytes.
+pub const BYTES: &str = r#"{"general": {"positionEncodings": ["utf-8"]}, "textDocument": {
+    "publishDiagnostics": {"relatedInformation": true}, "hover": {"contentFormat": ["markdown"]},
+    "signatureHelp": {"signatureInformation": {"parameterInformation": {"labelOffsetSupport": true}}}}}"#;
+
+/// A server that runs.
 pub struct Client {
     child: Child,
     pub input: Option<ChildStdin>,
     output: BufReader<ChildStdout>,
     count: usize,
-    pub told: Vec<Json>,
 }
 
 impl Client {
@@ -20,22 +25,23 @@ impl Client {
         command.arg("serve").stdin(Stdio::piped()).stdout(Stdio::piped()).stderr(Stdio::null());
         let mut child = command.spawn().unwrap();
         let (input, output) = (child.stdin.take(), BufReader::new(child.stdout.take().unwrap()));
-        Client { child, input, output, count: 0, told: Vec::new() }
+        Client { child, input, output, count: 0 }
     }
 
-    /// A server with these encodings in the order in which the client prefers them, and with these options.
-    pub fn start(encodings: &[&str], options: Json) -> Client {
+    /// A server that is initialized by a client that can do this, in JSON.
+    pub fn start(capabilities: &str, options: &str) -> Client {
         let mut client = Client::spawn();
-        let encodings: Json = encodings.iter().map(|name| Json::from(*name)).collect();
-        let related =
-            object([("publishDiagnostics", object([("relatedInformation", true.into())]))]);
-        let general = object([("positionEncodings", encodings)]);
-        let capabilities = object([("general", general), ("textDocument", related)]);
-        let params = object([("capabilities", capabilities), ("initializationOptions", options)]);
+        let [capabilities, options] = [capabilities, options].map(|text| Json::read(text).unwrap());
+        let params = object! { "capabilities": capabilities, "initializationOptions": options };
         let reply = client.request("initialize", params);
         assert_eq!(reply["result"]["serverInfo"]["name"].as_text(), Some("wgsl"));
-        client.tell("initialized", object([]));
+        client.tell("initialized", object! {});
         client
+    }
+
+    /// A server of a client that counts bytes.
+    pub fn of_bytes() -> Client {
+        Client::start(BYTES, "null")
     }
 
     /// Writes bytes; of a server that has ended none arrive.
@@ -45,55 +51,50 @@ impl Client {
     }
 
     pub fn tell(&mut self, method: &str, params: Json) {
-        let message =
-            object([("jsonrpc", "2.0".into()), ("method", method.into()), ("params", params)]);
+        let message = object! { "jsonrpc": "2.0", "method": method, "params": params };
         self.write(&framed(&message.to_string()));
     }
 
-    /// The response to a request. What else the server says before it is `told`.
+    /// The response to a request; what the server says in front of it is passed over.
     pub fn request(&mut self, method: &str, params: Json) -> Json {
         self.count += 1;
         let id = Json::from(self.count);
         let message =
-            object([("jsonrpc", "2.0".into()), ("id", id.clone()), ("method", method.into())]);
-        self.write(&framed(&message.with("params", Some(params)).to_string()));
+            object! { "jsonrpc": "2.0", "id": self.count, "method": method, "params": params };
+        self.write(&framed(&message.to_string()));
         loop {
             let message = self.read().expect(method);
             if message["id"] == id {
                 return message;
             }
-            self.told.push(message);
         }
     }
 
-    pub fn open(&mut self, uri: &str, text: &str) {
-        let document = object([("uri", uri.into()), ("version", 1.into()), ("text", text.into())]);
-        self.tell("textDocument/didOpen", object([("textDocument", document)]));
+    /// The result of a request about a document.
+    pub fn ask(&mut self, method: &str, params: Json) -> Json {
+        self.request(&format!("textDocument/{method}"), params)["result"].clone()
     }
 
-    pub fn change(&mut self, uri: &str, version: usize, text: &str) {
-        let document = object([("uri", uri.into()), ("version", version.into())]);
-        let changes = Json::List(vec![object([("text", text.into())])]);
-        self.tell(
-            "textDocument/didChange",
-            object([("textDocument", document), ("contentChanges", changes)]),
-        );
+    pub fn open(&mut self, uri: &str, text: &str) {
+        let document = object! { "uri": uri, "version": 1, "text": text };
+        self.tell("textDocument/didOpen", object! { "textDocument": document });
+    }
+
+    /// Tells that a document has another text, in place of a range of its own if there is one.
+    pub fn change(&mut self, uri: &str, version: usize, range: Option<Json>, text: &str) {
+        let change = object! { "text": text }.with("range", range);
+        let document = object! { "uri": uri, "version": version };
+        let changes = Json::List(vec![change]);
+        let params = object! { "textDocument": document, "contentChanges": changes };
+        self.tell("textDocument/didChange", params);
     }
 
     /// The next message, or None at the end of the output.
     pub fn read(&mut self) -> Option<Json> {
-        let mut len = None;
-        loop {
-            let mut line = String::new();
-            if self.output.read_line(&mut line).unwrap() == 0 {
-                return None;
-            }
-            match line.trim_end() {
-                "" => break,
-                line => len = line.strip_prefix("Content-Length: ").map(|len| len.parse().unwrap()),
-            }
-        }
-        let mut bytes = vec![0; len.unwrap()];
+        let lines = self.output.by_ref().lines().map(Result::unwrap);
+        let header: Vec<String> = lines.take_while(|line| !line.is_empty()).collect();
+        let len = header.iter().find_map(|line| line.strip_prefix("Content-Length: "))?;
+        let mut bytes = vec![0; len.parse().unwrap()];
         self.output.read_exact(&mut bytes).unwrap();
         Some(Json::read(std::str::from_utf8(&bytes).unwrap()).unwrap())
     }
@@ -111,10 +112,7 @@ impl Client {
     /// All messages that are left, and the status, when the input has ended.
     pub fn rest(mut self) -> (Vec<Json>, Option<i32>) {
         self.input = None;
-        let mut rest = Vec::new();
-        while let Some(message) = self.read() {
-            rest.push(message);
-        }
+        let rest = std::iter::from_fn(|| self.read()).collect();
         (rest, self.child.wait().unwrap().code())
     }
 
@@ -133,12 +131,17 @@ pub fn framed(text: &str) -> Vec<u8> {
 
 /// The parameters of a request about a document.
 pub fn opened(uri: &str) -> Json {
-    object([("textDocument", object([("uri", uri.into())]))])
+    object! { "textDocument": object! { "uri": uri } }
 }
 
 /// The position of a byte, counted in bytes.
 pub fn at(text: &str, byte: usize) -> Json {
     let line = text[..byte].matches('\n').count();
     let start = text[..byte].rfind('\n').map_or(0, |at| at + 1);
-    object([("line", line.into()), ("character", (byte - start).into())])
+    object! { "line": line, "character": byte - start }
+}
+
+/// The range of some bytes.
+pub fn range(text: &str, bytes: &Range<usize>) -> Json {
+    object! { "start": at(text, bytes.start), "end": at(text, bytes.end) }
 }
