@@ -1,7 +1,9 @@
 //! What an editor asks of a checked module.
 
-use std::fs;
+mod tables;
+
 use std::ops::Range;
+use tables::rows;
 use wgsl_types_proved::module::{check, check_in, Meaning, Stage};
 use wgsl_types_proved::ty::StructType;
 use wgsl_types_proved::Type;
@@ -16,19 +18,8 @@ fn marked(text: &str) -> (Range<usize>, String) {
 /// A fault has the place of the other declaration.
 #[test]
 fn faults_refer_to_declarations() {
-    for text in [
-        "const ‹a› = 1; var<private> a: i32;",
-        "struct S { ‹a›: i32, b: i32, a: f32 }",
-        "fn f(b: i32, ‹a›: i32, a: f32) {}",
-        "fn f(b: i32, ‹a›: i32) { let a = 1; }",
-        "fn f() { let a = 1; { let ‹a› = 2; let a = 3; } }",
-        "const ‹a› = b; const b = a;",
-        "alias ‹a› = b; alias b = array<a, 2>;",
-        "alias ‹a› = b; alias b = array<a<i32>, 2>;",
-        "const ‹a› = b; const b = a(1);",
-        "fn ‹a›() { b(); } fn b() { a(); }",
-    ] {
-        let (bytes, text) = marked(text);
+    for [text] in rows("modules/declarations.txt") {
+        let (bytes, text) = marked(&text);
         let faults = check(&text).faults;
         let notes: Vec<_> = faults.iter().flat_map(|fault| &fault.notes).collect();
         assert!(matches!(faults[0].rule.word(), "duplicate" | "cycle"), "{text}: {faults:?}");
@@ -86,9 +77,8 @@ fn names_at(text: &str) -> String {
 /// The names of the module, and of a function those that are declared in front.
 #[test]
 fn names_are_in_scope() {
-    for row in fs::read_to_string("tests/modules/names.txt").unwrap().lines() {
-        let (text, names) = row.split_once('\t').unwrap();
-        assert_eq!(names_at(text), names.trim_matches('-'), "{text}");
+    for [text, names] in rows("modules/names.txt") {
+        assert_eq!(names_at(&text), names.trim_matches('-'), "{text}");
     }
 }
 
@@ -108,9 +98,8 @@ fn signature_at(text: &str) -> String {
 
 #[test]
 fn calls_have_signatures() {
-    for row in fs::read_to_string("tests/modules/signatures.txt").unwrap().lines() {
-        let (text, signature) = row.split_once('\t').unwrap();
-        assert_eq!(signature_at(text), signature, "{text}");
+    for [text, signature] in rows("modules/signatures.txt") {
+        assert_eq!(signature_at(&text), signature, "{text}");
     }
 }
 
@@ -160,10 +149,8 @@ fn a_host_declares_names() {
 /// Names are in scope where the check finds them, and any place of any text may be asked.
 #[test]
 fn scopes_are_those_of_the_check() {
-    let list = fs::read_to_string("tests/modules/modules.txt").unwrap();
     let mut count = 0;
-    for quoted in list.lines().filter_map(|line| line.rsplit('\t').next()) {
-        let text = quoted[1..quoted.len() - 1].replace("\\n", "\n").replace("\\\"", "\"");
+    for [_, _, text] in rows("modules/modules.txt") {
         let checked = check(&text);
         for part in &checked.parts {
             let Some(declared) = part.declared else { continue };
