@@ -109,34 +109,22 @@ fn expressions_have_types() {
     assert_eq!(json, format!("{{\"file\":\"-\",\"faults\":[],\"types\":[{literal},{name}]}}\n"));
 }
 
-/// A new folder, with files.
-fn folder(name: &str, files: &[(&str, &str)]) -> PathBuf {
+/// A new folder with files, which have this text.
+fn folder(name: &str, files: &str, text: &str) -> PathBuf {
     let top = PathBuf::from(env!("CARGO_TARGET_TMPDIR")).join(name);
     let _ = fs::remove_dir_all(&top);
-    fs::create_dir_all(&top).unwrap();
-    for (file, text) in files {
-        fs::create_dir_all(top.join(file).parent().unwrap()).unwrap();
-        fs::write(top.join(file), text).unwrap();
+    for file in files.split(' ').map(|file| top.join(file)) {
+        fs::create_dir_all(file.parent().unwrap()).unwrap();
+        fs::write(file, text).unwrap();
     }
     top
 }
 
 #[test]
 fn a_folder_is_checked_with_those_inside_it() {
-    let faulty = "foo";
-    let top = folder(
-        "checked",
-        &[
-            ("b.wgsl", faulty),
-            ("a.wgsl", faulty),
-            ("c.txt", faulty),
-            (".d.wgsl", faulty),
-            ("e/f/g.wgsl", faulty),
-            ("e/h.wgsl", ""),
-            (".i/j.wgsl", faulty),
-            ("d/k.wgsl", faulty),
-        ],
-    );
+    let files = "b.wgsl a.wgsl c.txt .d.wgsl e/f/g.wgsl .i/j.wgsl d/k.wgsl e/h.wgsl";
+    let top = folder("checked", files, "foo");
+    fs::write(top.join("e/h.wgsl"), "").unwrap();
     let top = top.to_str().unwrap();
     let wanted = ["a", "b", "d/k", "e/f/g"]
         .map(|name| format!("{top}/{name}.wgsl:1:1: syntax: expected a declaration, found `foo`\n"))
@@ -148,7 +136,7 @@ fn a_folder_is_checked_with_those_inside_it() {
     let (status, output, notes) = end(&[&format!("{top}/e/h.wgsl"), &nothing, "--short"], b"");
     assert_eq!((status, notes.as_str()), (Some(1), ""));
     assert_eq!(output.lines().count(), 1);
-    let empty = folder("empty", &[("a.txt", "")]);
+    let empty = folder("empty", "a.txt", "");
     let (status, output, notes) = end(&[empty.to_str().unwrap()], b"");
     assert_eq!((status, output.as_str()), (Some(2), ""));
     assert!(
