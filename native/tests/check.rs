@@ -46,10 +46,8 @@ fn faults_have_places_and_codes() {
     let next = "argument 1 is u32\"}]},{\"kind\":\"behaviour\",";
     assert!(json.starts_with(&start) && json.contains(next), "{json}");
     assert!(json.ends_with("found `{`\"}],\"types\":[]}\n"), "{json}");
-    assert_eq!(
-        printed(&["-"], 1, b"\nfn \xff"),
-        "-:2:4: error: the text is not UTF-8 from here on\n"
-    );
+    let unread = "-:2:4: error: the text is not UTF-8 from here on\n";
+    assert_eq!(printed(&["-"], 1, b"\nfn \xff"), unread);
     // No control character of a name reaches a terminal.
     let escape =
         "struct a\u{9b} { a: f32 } fn f(p: a\u{9b}) { let b: a\u{9b} = p; let c: d\u{9b} = 1; }"
@@ -139,22 +137,15 @@ fn a_folder_is_checked_with_those_inside_it() {
     let empty = folder("empty", "a.txt", "");
     let (status, output, notes) = end(&[empty.to_str().unwrap()], b"");
     assert_eq!((status, output.as_str()), (Some(2), ""));
-    assert!(
-        notes.starts_with("wgsl: no file in ") && notes.ends_with(" ends in .wgsl\n"),
-        "{notes}"
-    );
+    let names_it = notes.starts_with("wgsl: no file in ");
+    assert!(names_it && notes.ends_with(" ends in .wgsl\n"), "{notes}");
 }
 
 #[test]
 fn standard_input_has_a_name() {
-    for words in
-        [["--short", "--stdin-filename=a b.wgsl", "-"], ["--stdin-filename", "a b.wgsl", "--short"]]
-    {
-        assert_eq!(
-            printed(&words, 1, b"foo"),
-            "a b.wgsl:1:1: syntax: expected a declaration, found `foo`\n"
-        );
-    }
+    let told = "a b.wgsl:1:1: syntax: expected a declaration, found `foo`\n";
+    assert_eq!(printed(&["--short", "--stdin-filename=a b.wgsl", "-"], 1, b"foo"), told);
+    assert_eq!(printed(&["--stdin-filename", "a b.wgsl", "--short"], 1, b"foo"), told);
 }
 
 #[test]

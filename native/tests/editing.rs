@@ -48,17 +48,20 @@ fn faults_explain_overloads() {
     }
 }
 
-/// A declaration without a type has one.
+/// A declaration without a type has one. Members have no scope.
 #[test]
 fn types_are_inferred() {
     let text = "const a = 1; override b = 2; var<private> c = vec3(1.5); const d: i32 = 1; alias e = i32; var<private> f: i32;
-        fn g(h: i32) { let i = h; var j = a; const k: i32 = 1; let l = &j; let m = foo; for (var n = 1u; n < 2; n++) { } }";
+        fn g(h: i32) { let i = h; var j = a; const k: i32 = 1; let l = &j; let m = foo; for (var n = 1u; n < 2; n++) { } }
+        struct o { p: i32 }";
     let checked = check(text);
     let inferred =
         checked.names.iter().filter_map(|name| Some((&*name.text, name.inferred_type()?)));
     let inferred: Vec<String> = inferred.map(|(name, ty)| format!("{name}: {ty}")).collect();
     let expected = "a: AbstractInt, b: i32, c: vec3<f32>, i: i32, j: i32, l: ptr<function, i32, read_write>, n: u32";
     assert_eq!(inferred.join(", "), expected);
+    let named: Vec<&str> = checked.names.iter().map(|name| &*name.text).collect();
+    assert_eq!(named.join(" "), "a b c d e f g o h i j k l m n");
 }
 
 fn names_at(text: &str) -> String {
@@ -157,11 +160,8 @@ fn scopes_are_those_of_the_check() {
             let word = text[part.bytes.clone()].trim_matches(['(', ')', ' ']);
             let names = checked.names_at(part.bytes.start);
             let name = names.into_iter().find(|name| name.text == word).unwrap();
-            assert_eq!(
-                name.bytes.as_ref().map(|bytes| bytes.start),
-                Some(declared),
-                "{word}: {text}"
-            );
+            let start = name.bytes.as_ref().map(|bytes| bytes.start);
+            assert_eq!(start, Some(declared), "{word}: {text}");
             count += 1;
         }
         for end in (0..text.len()).filter(|end| text.is_char_boundary(*end)).step_by(11) {
