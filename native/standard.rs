@@ -62,6 +62,8 @@ use crate::syntax::{BinaryOperator, UnaryOperator};
 use crate::ty::Type;
 use alloc::string::String;
 use alloc::vec::Vec;
+#[cfg(feature = "text")]
+pub(crate) use construct::constructor_of;
 pub use construct::{construct, NotConstructed};
 use core::fmt;
 pub use expressions::{address_of, indirection, load, type_of_index, type_of_member};

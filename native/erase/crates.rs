@@ -6,21 +6,11 @@ use std::io;
 use std::path::{Path, PathBuf};
 
 /// The crates that users reach, by the feature of cargo that asks for them.
-const REACHED: [(&str, &[&str]); 4] = [
-    ("", &["wgsl_calls"]),
-    ("STANDARD", &["wgsl_standard", "wgsl_forms"]),
-    (
-        "TEXT",
-        &[
-            "wgsl_reader",
-            "wgsl_spelling",
-            "wgsl_expressions",
-            "wgsl_module",
-            "wgsl_report",
-            "wgsl_c",
-        ],
-    ),
-    ("STD", &["wgsl_check", "wgsl"]),
+const REACHED: [(&str, &str); 4] = [
+    ("", "wgsl_calls"),
+    ("STANDARD", "wgsl_standard wgsl_forms"),
+    ("TEXT", "wgsl_reader wgsl_spelling wgsl_expressions wgsl_module wgsl_report wgsl_c"),
+    ("STD", "wgsl_check wgsl"),
 ];
 
 /// A source of a crate.
@@ -47,7 +37,7 @@ pub fn needed(crates_txt: &str, has_feature: impl Fn(&str) -> bool) -> Vec<Strin
     for (_, roots) in
         REACHED.iter().filter(|(feature, _)| feature.is_empty() || has_feature(feature))
     {
-        for root in *roots {
+        for root in roots.split(' ') {
             add(root, &below, &mut needed);
         }
     }

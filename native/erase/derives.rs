@@ -1,6 +1,7 @@
 //! The derives of a type.
 
-use crate::rules::Project;
+use crate::names::has_word;
+use crate::rules::{Applied, Project};
 use crate::source::{Refusal, Source};
 use std::collections::HashSet;
 
@@ -8,28 +9,12 @@ use std::collections::HashSet;
 const OF_DATA: [&str; 5] = ["Clone", "Debug", "PartialEq", "Eq", "Hash"];
 
 /// The crates whose types users see, and the types that they see of other crates.
-const SEEN: [&str; 13] = [
-    "wgsl_syntax",
-    "wgsl_core",
-    "wgsl_calls",
-    "wgsl_forms::Declaration",
-    "wgsl_forms::Referent",
-    "wgsl_reader::Event",
-    "wgsl_reader::Kind",
-    "wgsl_reader::Mark",
-    "wgsl_reader::Misread",
-    "wgsl_reader::Rule",
-    "wgsl_reader::Token",
-    "wgsl_source::Stage",
-    "wgsl_report::Place",
-];
+const SEEN: &str = "wgsl_syntax wgsl_core wgsl_calls wgsl_forms::Declaration wgsl_forms::Referent wgsl_reader::Event \
+    wgsl_reader::Kind wgsl_reader::Mark wgsl_reader::Misread wgsl_reader::Rule wgsl_reader::Token wgsl_source::Stage \
+    wgsl_report::Place";
 
 /// `#[derive(..)]`, which becomes the derives of data if users see the type, except those that the source implements itself.
-pub fn derive(
-    source: &mut Source<'_>,
-    index: usize,
-    project: &Project<'_>,
-) -> Result<Option<usize>, Refusal> {
+pub fn derive(source: &mut Source<'_>, index: usize, project: &Project<'_>) -> Applied {
     if !source.has(index, &["#", "[", "derive", "("]) {
         return Ok(None);
     }
@@ -40,7 +25,7 @@ pub fn derive(
         .collect();
     let name = declared(source, close + 2)?;
     let is_seen =
-        SEEN.contains(&project.name) || SEEN.contains(&&*format!("{}::{name}", project.name));
+        has_word(SEEN, project.name) || has_word(SEEN, &format!("{}::{name}", project.name));
     let missing = OF_DATA.iter().filter(|of| {
         is_seen && !derives.contains(of) && !project.written_out.contains(&(**of, name))
     });

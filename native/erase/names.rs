@@ -1,7 +1,7 @@
 //! Names that are replaced.
 
-use crate::rules::Project;
-use crate::source::{Refusal, Source};
+use crate::rules::{Applied, Project};
+use crate::source::Source;
 use std::collections::HashSet;
 
 /// The prefix of a name that means something else in Rust.
@@ -17,38 +17,21 @@ const FUNCTIONS: [(&str, &[&str]); 5] = [
 ];
 
 /// Methods of std's types that have other parameters or results in Rattle, or that older compilers lack.
-const METHODS: [&str; 8] = [
-    "push",
-    "push_str",
-    "extend_from_slice",
-    "insert",
-    "to_string",
-    "cast_signed",
-    "cast_unsigned",
-    "is_multiple_of",
-];
+const METHODS: &str =
+    "push push_str extend_from_slice insert to_string cast_signed cast_unsigned is_multiple_of";
 
 /// Methods of public types that only proofs need, or that have types which aren't public.
-const INTERNAL: [&str; 11] = [
-    "around",
-    "form",
-    "inner",
-    "is_convertible_to_vector",
-    "is_integer_or_vector",
-    "layer",
-    "name",
-    "parameters",
-    "result_struct",
-    "scalar_type",
-    "size_and_align_of",
-];
+const INTERNAL: &str =
+    "around form inner is_convertible_to_vector is_integer_or_vector layer name parameters \
+    result_struct scalar_type size_and_align_of";
+
+/// Whether a list of words has this one.
+pub fn has_word(words: &str, word: &str) -> bool {
+    words.split(' ').any(|listed| listed == word)
+}
 
 /// `crate::`, which becomes the path of the crate's module.
-pub fn path(
-    source: &mut Source<'_>,
-    index: usize,
-    project: &Project<'_>,
-) -> Result<Option<usize>, Refusal> {
+pub fn path(source: &mut Source<'_>, index: usize, project: &Project<'_>) -> Applied {
     if !source.has(index, &["crate", "::"]) {
         return Ok(None);
     }
@@ -57,11 +40,7 @@ pub fn path(
 }
 
 /// `TpltParam::Ty`, and where it is declared.
-pub fn template_parameter(
-    source: &mut Source<'_>,
-    index: usize,
-    _: &Project<'_>,
-) -> Result<Option<usize>, Refusal> {
+pub fn template_parameter(source: &mut Source<'_>, index: usize, _: &Project<'_>) -> Applied {
     if source.at(index) != "Ty"
         || source.before(index, 2) != "TpltParam"
         || !matches!(source.before(index, 1), "::" | "{")
@@ -73,15 +52,11 @@ pub fn template_parameter(
 }
 
 /// `Vec::new(`, `.push(` and their like. Methods of these names that a source declares have the prefix too.
-pub fn of_std(
-    source: &mut Source<'_>,
-    index: usize,
-    _: &Project<'_>,
-) -> Result<Option<usize>, Refusal> {
+pub fn of_std(source: &mut Source<'_>, index: usize, _: &Project<'_>) -> Applied {
     let (name, ty) = (source.at(index), source.before(index, 2));
     let is_called = matches!(source.at(index + 1), "(" | "::");
     let is_function = || FUNCTIONS.iter().any(|(of, names)| *of == ty && names.contains(&name));
-    let is_method = || source.at(index + 1) == "(" && METHODS.contains(&name);
+    let is_method = || source.at(index + 1) == "(" && has_word(METHODS, name);
     match source.before(index, 1) {
         "::" if is_called && is_function() => {}
         "." if is_method() => {}
@@ -93,11 +68,7 @@ pub fn of_std(
 }
 
 /// A method with an allocator: where it is declared, and `.name(.. alloc ..)` or `Type::name(.. alloc ..)`.
-pub fn with_allocator(
-    source: &mut Source<'_>,
-    index: usize,
-    project: &Project<'_>,
-) -> Result<Option<usize>, Refusal> {
+pub fn with_allocator(source: &mut Source<'_>, index: usize, project: &Project<'_>) -> Applied {
     let name = source.at(index);
     if source.at(index + 1) != "(" || !project.methods.contains(name) {
         return Ok(None);
@@ -122,12 +93,8 @@ pub fn with_allocator(
 }
 
 /// A method that isn't for users.
-pub fn internal(
-    source: &mut Source<'_>,
-    index: usize,
-    _: &Project<'_>,
-) -> Result<Option<usize>, Refusal> {
-    if !source.has(index, &["pub", "fn"]) || !INTERNAL.contains(&source.at(index + 2)) {
+pub fn internal(source: &mut Source<'_>, index: usize, _: &Project<'_>) -> Applied {
+    if !source.has(index, &["pub", "fn"]) || !has_word(INTERNAL, source.at(index + 2)) {
         return Ok(None);
     }
     source.put(index, index, "pub(crate)");

@@ -16,7 +16,10 @@ pub struct Project<'s> {
 }
 
 /// A rule is called for each token. If it knows the construct there, it returns the index after it.
-type Rule = fn(&mut Source<'_>, usize, &Project<'_>) -> Result<Option<usize>, Refusal>;
+type Rule = fn(&mut Source<'_>, usize, &Project<'_>) -> Applied;
+
+/// What a rule returns.
+pub type Applied = Result<Option<usize>, Refusal>;
 
 /// The rules. The first one that knows the construct at a token applies.
 const RULES: [Rule; 15] = [
@@ -73,11 +76,7 @@ pub fn erase(mut source: Source<'_>, project: &Project<'_>) -> Result<String, Re
 }
 
 /// `ghost use ..;`, `ghost name = {..};`, `ghost name: {..};` or `ghost name: {..},`, with the comments right above.
-fn ghost_item(
-    source: &mut Source<'_>,
-    index: usize,
-    _: &Project<'_>,
-) -> Result<Option<usize>, Refusal> {
+fn ghost_item(source: &mut Source<'_>, index: usize, _: &Project<'_>) -> Applied {
     if source.at(index) != "ghost" || !source.is_word(index + 1) {
         return Ok(None);
     }
@@ -92,11 +91,7 @@ fn ghost_item(
 }
 
 /// `requires {..}`, `ensures {..}`, `ensures name {..}` or `ensures* name {..}`.
-fn clause(
-    source: &mut Source<'_>,
-    index: usize,
-    _: &Project<'_>,
-) -> Result<Option<usize>, Refusal> {
+fn clause(source: &mut Source<'_>, index: usize, _: &Project<'_>) -> Applied {
     if !matches!(source.at(index), "requires" | "ensures") {
         return Ok(None);
     }
@@ -114,11 +109,7 @@ fn clause(
 
 /// `#[tactic(..)]`, `#![tactic(..)]` and `#[cycle(..)]`; `#[unsafe(no_mangle)]`, since `native/c` exports. Attributes
 /// of Rust stay. Any others are refused.
-fn attribute(
-    source: &mut Source<'_>,
-    index: usize,
-    _: &Project<'_>,
-) -> Result<Option<usize>, Refusal> {
+fn attribute(source: &mut Source<'_>, index: usize, _: &Project<'_>) -> Applied {
     let open = if source.has(index, &["#", "!", "["]) { index + 2 } else { index + 1 };
     if source.at(index) != "#" || source.at(open) != "[" {
         return Ok(None);
@@ -135,11 +126,7 @@ fn attribute(
 }
 
 /// `extern "C"` in front of a function.
-fn exported(
-    source: &mut Source<'_>,
-    index: usize,
-    _: &Project<'_>,
-) -> Result<Option<usize>, Refusal> {
+fn exported(source: &mut Source<'_>, index: usize, _: &Project<'_>) -> Applied {
     if !source.has(index, &["extern", "\"C\"", "fn"]) {
         return Ok(None);
     }
@@ -148,7 +135,7 @@ fn exported(
 }
 
 /// `#[cfg(test)] mod name;`. Any other condition is refused.
-fn tests(source: &mut Source<'_>, index: usize, _: &Project<'_>) -> Result<Option<usize>, Refusal> {
+fn tests(source: &mut Source<'_>, index: usize, _: &Project<'_>) -> Applied {
     if !source.has(index, &["#", "[", "cfg"]) {
         return Ok(None);
     }
@@ -160,11 +147,7 @@ fn tests(source: &mut Source<'_>, index: usize, _: &Project<'_>) -> Result<Optio
 }
 
 /// `impl Drop for ..`, which is refused.
-fn drop_impl(
-    source: &mut Source<'_>,
-    index: usize,
-    _: &Project<'_>,
-) -> Result<Option<usize>, Refusal> {
+fn drop_impl(source: &mut Source<'_>, index: usize, _: &Project<'_>) -> Applied {
     if source.at(index) == "Drop" && source.at(index + 1) == "for" {
         return Err(source.refuse(index, "what happens when a value is let go"));
     }
@@ -172,11 +155,7 @@ fn drop_impl(
 }
 
 /// `Formatter<W>`, which becomes `Formatter<'_>`.
-fn formatter(
-    source: &mut Source<'_>,
-    index: usize,
-    _: &Project<'_>,
-) -> Result<Option<usize>, Refusal> {
+fn formatter(source: &mut Source<'_>, index: usize, _: &Project<'_>) -> Applied {
     if !source.has(index, &["Formatter", "<"]) {
         return Ok(None);
     }
@@ -188,11 +167,7 @@ fn formatter(
 }
 
 /// `<W: Write>` after the name of a function that takes a `Formatter<W>`.
-fn writer(
-    source: &mut Source<'_>,
-    index: usize,
-    _: &Project<'_>,
-) -> Result<Option<usize>, Refusal> {
+fn writer(source: &mut Source<'_>, index: usize, _: &Project<'_>) -> Applied {
     let open = index + 2;
     if source.at(index) != "fn" || !source.has(open, &["<", "W", ":"]) {
         return Ok(None);
@@ -215,11 +190,7 @@ fn writer(
 }
 
 /// `fn main`, which becomes `pub(crate) fn main`.
-fn main_function(
-    source: &mut Source<'_>,
-    index: usize,
-    _: &Project<'_>,
-) -> Result<Option<usize>, Refusal> {
+fn main_function(source: &mut Source<'_>, index: usize, _: &Project<'_>) -> Applied {
     if !source.has(index, &["fn", "main", "("]) {
         return Ok(None);
     }

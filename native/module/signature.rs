@@ -10,7 +10,7 @@ use crate::proved::wgsl_standard::written::{parameter_count, takes_either};
 use crate::proved::wgsl_syntax::overload::Dimensions;
 use crate::shim::always;
 use crate::shim::std::alloc::Global;
-use crate::standard::{Called, Overload};
+use crate::standard::{constructor_of, Called, Overload};
 use crate::ty::Type;
 use alloc::string::{String, ToString};
 use alloc::vec::Vec;
@@ -43,11 +43,13 @@ impl Checked {
             return Some(Signature { overloads: vec![overload], fitting: Some(0), argument });
         }
         let listed = (name + 1 < open).then(|| self.between(name + 2..open - 1).parse().ok());
+        let constructed =
+            |ty: &Type| constructor_of(ty).map(|(name, of)| (name, of.map(|of| Some(of.clone()))));
         let (name, template) = match known.map(|name| &name.meaning) {
-            Some(Meaning::Type(ty)) => constructor_of(ty)?,
+            Some(Meaning::Type(ty)) => constructed(ty)?,
             Some(_) => return None,
             None => match Type::predeclared(word) {
-                Some(ty) => constructor_of(&ty)?,
+                Some(ty) => constructed(&ty)?,
                 None => (word.into(), listed),
             },
         };
@@ -182,16 +184,5 @@ fn fitting(lines: &[Line], operands: &[Option<Operand>], argument: usize) -> Opt
     fitting.min_by_key(|index| {
         let count = parameter_count(parameters_of(lines[*index].overload));
         count != operands.len() || !takes(&lines[*index], &known)
-    })
-}
-
-/// The constructor of a type that has overloads, by its name, with its template.
-fn constructor_of(ty: &Type) -> Option<(String, Option<Option<Type>>)> {
-    Some(match ty {
-        Type::Vec(n, of) => (format!("vec{n}"), Some(Some((**of).clone()))),
-        Type::Mat(columns, rows, of) => {
-            (format!("mat{columns}x{rows}"), Some(Some((**of).clone())))
-        }
-        _ => (ty.scalar()?.to_string(), None),
     })
 }

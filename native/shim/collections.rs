@@ -10,94 +10,56 @@ use core::fmt;
 
 type Made<T> = Result<T, AllocError>;
 
-pub trait RattleBox<T> {
-    fn rattle_new(alloc: Global, value: T) -> Made<Box<T>>;
-    fn rattle_into_inner(boxed: Box<T>) -> T;
+/// Declares a trait with functions, and the type that has them.
+macro_rules! functions {
+    ($($trait:ident<$($letter:ident),*> for $ty:ty, [$($bounds:tt)*] {
+        $(fn $name:ident($($parameters:tt)*) -> $result:ty $body:block)*
+    })*) => {$(
+        pub trait $trait<$($letter),*>: Sized {
+            $(fn $name($($parameters)*) -> $result;)*
+        }
+
+        impl<$($bounds)*> $trait<$($letter),*> for $ty {
+            $(
+                #[inline(always)]
+                fn $name($($parameters)*) -> $result $body
+            )*
+        }
+    )*};
 }
 
-impl<T> RattleBox<T> for Box<T> {
-    #[inline(always)]
-    fn rattle_new(_: Global, value: T) -> Made<Box<T>> {
-        Ok(Box::new(value))
+functions! {
+    RattleBox<T> for Box<T>, [T] {
+        fn rattle_new(_: Global, value: T) -> Made<Box<T>> { Ok(Box::new(value)) }
+        fn rattle_into_inner(boxed: Box<T>) -> T { *boxed }
     }
 
-    #[inline(always)]
-    fn rattle_into_inner(boxed: Box<T>) -> T {
-        *boxed
-    }
-}
-
-pub trait RattleVec<T>: Sized {
-    fn rattle_new(alloc: Global) -> Self;
-    fn rattle_with_capacity(alloc: Global, capacity: usize) -> Made<Self>;
-    fn rattle_push(&mut self, value: T) -> Made<()>;
-    fn rattle_insert(&mut self, index: usize, value: T) -> Made<()>;
-}
-
-impl<T> RattleVec<T> for Vec<T> {
-    #[inline(always)]
-    fn rattle_new(_: Global) -> Self {
-        Vec::new()
+    RattleVec<T> for Vec<T>, [T] {
+        fn rattle_new(_: Global) -> Self { Vec::new() }
+        fn rattle_with_capacity(_: Global, capacity: usize) -> Made<Self> { Ok(Vec::with_capacity(capacity)) }
+        fn rattle_push(&mut self, value: T) -> Made<()> { self.push(value); Ok(()) }
+        fn rattle_insert(&mut self, index: usize, value: T) -> Made<()> { self.insert(index, value); Ok(()) }
     }
 
-    #[inline(always)]
-    fn rattle_with_capacity(_: Global, capacity: usize) -> Made<Self> {
-        Ok(Vec::with_capacity(capacity))
+    RattleExtend<T> for Vec<T>, [T: Copy] {
+        fn rattle_extend_from_slice(&mut self, values: &[T]) -> Made<()> { self.extend_from_slice(values); Ok(()) }
     }
 
-    #[inline(always)]
-    fn rattle_push(&mut self, value: T) -> Made<()> {
-        self.push(value);
-        Ok(())
+    RattleString<> for String, [] {
+        fn rattle_new(_: Global) -> Self { String::new() }
+        fn rattle_from_str(_: Global, text: &str) -> Made<Self> { Ok(String::from(text)) }
+        fn rattle_push(&mut self, c: char) -> Made<()> { self.push(c); Ok(()) }
+        fn rattle_push_str(&mut self, text: &str) -> Made<()> { self.push_str(text); Ok(()) }
     }
 
-    #[inline(always)]
-    fn rattle_insert(&mut self, index: usize, value: T) -> Made<()> {
-        self.insert(index, value);
-        Ok(())
-    }
-}
-
-pub trait RattleExtend<T> {
-    fn rattle_extend_from_slice(&mut self, values: &[T]) -> Made<()>;
-}
-
-impl<T: Copy> RattleExtend<T> for Vec<T> {
-    #[inline(always)]
-    fn rattle_extend_from_slice(&mut self, values: &[T]) -> Made<()> {
-        self.extend_from_slice(values);
-        Ok(())
-    }
-}
-
-pub trait RattleString: Sized {
-    fn rattle_new(alloc: Global) -> Self;
-    fn rattle_from_str(alloc: Global, text: &str) -> Made<Self>;
-    fn rattle_push(&mut self, c: char) -> Made<()>;
-    fn rattle_push_str(&mut self, text: &str) -> Made<()>;
-}
-
-impl RattleString for String {
-    #[inline(always)]
-    fn rattle_new(_: Global) -> Self {
-        String::new()
+    RattleMap<K, V> for BTreeMap<K, V>, [K: Ord, V] {
+        fn rattle_new(_: Global) -> Self { BTreeMap::new() }
+        fn rattle_insert(&mut self, key: K, value: V) -> Made<Option<V>> { Ok(self.insert(key, value)) }
     }
 
-    #[inline(always)]
-    fn rattle_from_str(_: Global, text: &str) -> Made<Self> {
-        Ok(String::from(text))
-    }
-
-    #[inline(always)]
-    fn rattle_push(&mut self, c: char) -> Made<()> {
-        self.push(c);
-        Ok(())
-    }
-
-    #[inline(always)]
-    fn rattle_push_str(&mut self, text: &str) -> Made<()> {
-        self.push_str(text);
-        Ok(())
+    RattleSet<T> for BTreeSet<T>, [T: Ord] {
+        fn rattle_new(_: Global) -> Self { BTreeSet::new() }
+        fn rattle_insert(&mut self, value: T) -> Made<bool> { Ok(self.insert(value)) }
     }
 }
 
@@ -113,40 +75,6 @@ impl RattleWrite for String {
             unreachable!("no `Display` here gives an error of its own");
         }
         Ok(())
-    }
-}
-
-pub trait RattleMap<K, V>: Sized {
-    fn rattle_new(alloc: Global) -> Self;
-    fn rattle_insert(&mut self, key: K, value: V) -> Made<Option<V>>;
-}
-
-impl<K: Ord, V> RattleMap<K, V> for BTreeMap<K, V> {
-    #[inline(always)]
-    fn rattle_new(_: Global) -> Self {
-        BTreeMap::new()
-    }
-
-    #[inline(always)]
-    fn rattle_insert(&mut self, key: K, value: V) -> Made<Option<V>> {
-        Ok(self.insert(key, value))
-    }
-}
-
-pub trait RattleSet<T>: Sized {
-    fn rattle_new(alloc: Global) -> Self;
-    fn rattle_insert(&mut self, value: T) -> Made<bool>;
-}
-
-impl<T: Ord> RattleSet<T> for BTreeSet<T> {
-    #[inline(always)]
-    fn rattle_new(_: Global) -> Self {
-        BTreeSet::new()
-    }
-
-    #[inline(always)]
-    fn rattle_insert(&mut self, value: T) -> Made<bool> {
-        Ok(self.insert(value))
     }
 }
 

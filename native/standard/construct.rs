@@ -3,7 +3,7 @@
 use super::{construct_array_of, construct_struct, type_ctor, Misfit, NoOverload, Operand};
 use crate::ty::Type;
 use alloc::format;
-use alloc::string::ToString;
+use alloc::string::{String, ToString};
 use core::fmt;
 
 /// Why the constructor of a type doesn't take values. It displays as what it has.
@@ -57,13 +57,18 @@ impl core::error::Error for NotConstructed {}
 /// # Ok::<(), wgsl_types_proved::ty::SpellingError>(())
 /// ```
 pub fn construct(ty: &Type, values: &[Operand]) -> Result<Operand, NotConstructed> {
-    Ok(match ty {
-        Type::Vec(n, of) => type_ctor(&format!("vec{n}"), Some(of), values)?,
-        Type::Mat(columns, rows, of) => {
-            type_ctor(&format!("mat{columns}x{rows}"), Some(of), values)?
-        }
-        Type::Array(of, count) => construct_array_of(of, *count, values)?,
-        _ if ty.is_scalar() && ty.is_concrete() => type_ctor(&ty.to_string(), None, values)?,
+    Ok(match (ty, constructor_of(ty)) {
+        (Type::Array(of, count), _) => construct_array_of(of, *count, values)?,
+        (_, Some((name, of))) => type_ctor(&name, of, values)?,
         _ => construct_struct(ty, values)?,
     })
+}
+
+/// The constructor of a concrete scalar, a vector or a matrix: its name, and the type in its template.
+pub(crate) fn constructor_of(ty: &Type) -> Option<(String, Option<&Type>)> {
+    match ty {
+        Type::Vec(n, of) => Some((format!("vec{n}"), Some(of))),
+        Type::Mat(columns, rows, of) => Some((format!("mat{columns}x{rows}"), Some(of))),
+        _ => (ty.is_scalar() && ty.is_concrete()).then(|| (ty.to_string(), None)),
+    }
 }

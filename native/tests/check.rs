@@ -46,10 +46,8 @@ fn faults_have_places_and_codes() {
     let next = "argument 1 is u32\"}]},{\"kind\":\"behaviour\",";
     assert!(json.starts_with(&start) && json.contains(next), "{json}");
     assert!(json.ends_with("found `{`\"}],\"types\":[]}\n"), "{json}");
-    assert_eq!(
-        printed(&["-"], 1, b"\nfn \xff"),
-        "-:2:4: error: the text is not UTF-8 from here on\n"
-    );
+    let unread = "-:2:4: error: the text is not UTF-8 from here on\n";
+    assert_eq!(printed(&["-"], 1, b"\nfn \xff"), unread);
     // No control character of a name reaches a terminal.
     let escape =
         "struct a\u{9b} { a: f32 } fn f(p: a\u{9b}) { let b: a\u{9b} = p; let c: d\u{9b} = 1; }"
@@ -109,34 +107,22 @@ fn expressions_have_types() {
     assert_eq!(json, format!("{{\"file\":\"-\",\"faults\":[],\"types\":[{literal},{name}]}}\n"));
 }
 
-/// A new folder, with files.
-fn folder(name: &str, files: &[(&str, &str)]) -> PathBuf {
+/// A new folder with files, which have this text.
+fn folder(name: &str, files: &str, text: &str) -> PathBuf {
     let top = PathBuf::from(env!("CARGO_TARGET_TMPDIR")).join(name);
     let _ = fs::remove_dir_all(&top);
-    fs::create_dir_all(&top).unwrap();
-    for (file, text) in files {
-        fs::create_dir_all(top.join(file).parent().unwrap()).unwrap();
-        fs::write(top.join(file), text).unwrap();
+    for file in files.split(' ').map(|file| top.join(file)) {
+        fs::create_dir_all(file.parent().unwrap()).unwrap();
+        fs::write(file, text).unwrap();
     }
     top
 }
 
 #[test]
 fn a_folder_is_checked_with_those_inside_it() {
-    let faulty = "foo";
-    let top = folder(
-        "checked",
-        &[
-            ("b.wgsl", faulty),
-            ("a.wgsl", faulty),
-            ("c.txt", faulty),
-            (".d.wgsl", faulty),
-            ("e/f/g.wgsl", faulty),
-            ("e/h.wgsl", ""),
-            (".i/j.wgsl", faulty),
-            ("d/k.wgsl", faulty),
-        ],
-    );
+    let files = "b.wgsl a.wgsl c.txt .d.wgsl e/f/g.wgsl .i/j.wgsl d/k.wgsl e/h.wgsl";
+    let top = folder("checked", files, "foo");
+    fs::write(top.join("e/h.wgsl"), "").unwrap();
     let top = top.to_str().unwrap();
     let wanted = ["a", "b", "d/k", "e/f/g"]
         .map(|name| format!("{top}/{name}.wgsl:1:1: syntax: expected a declaration, found `foo`\n"))
@@ -148,25 +134,18 @@ fn a_folder_is_checked_with_those_inside_it() {
     let (status, output, notes) = end(&[&format!("{top}/e/h.wgsl"), &nothing, "--short"], b"");
     assert_eq!((status, notes.as_str()), (Some(1), ""));
     assert_eq!(output.lines().count(), 1);
-    let empty = folder("empty", &[("a.txt", "")]);
+    let empty = folder("empty", "a.txt", "");
     let (status, output, notes) = end(&[empty.to_str().unwrap()], b"");
     assert_eq!((status, output.as_str()), (Some(2), ""));
-    assert!(
-        notes.starts_with("wgsl: no file in ") && notes.ends_with(" ends in .wgsl\n"),
-        "{notes}"
-    );
+    let names_it = notes.starts_with("wgsl: no file in ");
+    assert!(names_it && notes.ends_with(" ends in .wgsl\n"), "{notes}");
 }
 
 #[test]
 fn standard_input_has_a_name() {
-    for words in
-        [["--short", "--stdin-filename=a b.wgsl", "-"], ["--stdin-filename", "a b.wgsl", "--short"]]
-    {
-        assert_eq!(
-            printed(&words, 1, b"foo"),
-            "a b.wgsl:1:1: syntax: expected a declaration, found `foo`\n"
-        );
-    }
+    let told = "a b.wgsl:1:1: syntax: expected a declaration, found `foo`\n";
+    assert_eq!(printed(&["--short", "--stdin-filename=a b.wgsl", "-"], 1, b"foo"), told);
+    assert_eq!(printed(&["--stdin-filename", "a b.wgsl", "--short"], 1, b"foo"), told);
 }
 
 #[test]

@@ -1,7 +1,9 @@
 //! What an editor asks of a checked module.
 
-use std::fs;
+mod tables;
+
 use std::ops::Range;
+use tables::rows;
 use wgsl_types_proved::module::{check, check_in, Meaning, Stage};
 use wgsl_types_proved::ty::StructType;
 use wgsl_types_proved::Type;
@@ -16,19 +18,8 @@ fn marked(text: &str) -> (Range<usize>, String) {
 /// A fault has the place of the other declaration.
 #[test]
 fn faults_refer_to_declarations() {
-    for text in [
-        "const ‹a› = 1; var<private> a: i32;",
-        "struct S { ‹a›: i32, b: i32, a: f32 }",
-        "fn f(b: i32, ‹a›: i32, a: f32) {}",
-        "fn f(b: i32, ‹a›: i32) { let a = 1; }",
-        "fn f() { let a = 1; { let ‹a› = 2; let a = 3; } }",
-        "const ‹a› = b; const b = a;",
-        "alias ‹a› = b; alias b = array<a, 2>;",
-        "alias ‹a› = b; alias b = array<a<i32>, 2>;",
-        "const ‹a› = b; const b = a(1);",
-        "fn ‹a›() { b(); } fn b() { a(); }",
-    ] {
-        let (bytes, text) = marked(text);
+    for [text] in rows("modules/declarations.txt") {
+        let (bytes, text) = marked(&text);
         let faults = check(&text).faults;
         let notes: Vec<_> = faults.iter().flat_map(|fault| &fault.notes).collect();
         assert!(matches!(faults[0].rule.word(), "duplicate" | "cycle"), "{text}: {faults:?}");
@@ -57,17 +48,20 @@ fn faults_explain_overloads() {
     }
 }
 
-/// A declaration without a type has one.
+/// A declaration without a type has one. Members have no scope.
 #[test]
 fn types_are_inferred() {
     let text = "const a = 1; override b = 2; var<private> c = vec3(1.5); const d: i32 = 1; alias e = i32; var<private> f: i32;
-        fn g(h: i32) { let i = h; var j = a; const k: i32 = 1; let l = &j; let m = foo; for (var n = 1u; n < 2; n++) { } }";
+        fn g(h: i32) { let i = h; var j = a; const k: i32 = 1; let l = &j; let m = foo; for (var n = 1u; n < 2; n++) { } }
+        struct o { p: i32 }";
     let checked = check(text);
     let inferred =
         checked.names.iter().filter_map(|name| Some((&*name.text, name.inferred_type()?)));
     let inferred: Vec<String> = inferred.map(|(name, ty)| format!("{name}: {ty}")).collect();
     let expected = "a: AbstractInt, b: i32, c: vec3<f32>, i: i32, j: i32, l: ptr<function, i32, read_write>, n: u32";
     assert_eq!(inferred.join(", "), expected);
+    let named: Vec<&str> = checked.names.iter().map(|name| &*name.text).collect();
+    assert_eq!(named.join(" "), "a b c d e f g o h i j k l m n");
 }
 
 fn names_at(text: &str) -> String {
@@ -86,9 +80,8 @@ fn names_at(text: &str) -> String {
 /// The names of the module, and of a function those that are declared in front.
 #[test]
 fn names_are_in_scope() {
-    for row in fs::read_to_string("tests/modules/names.txt").unwrap().lines() {
-        let (text, names) = row.split_once('\t').unwrap();
-        assert_eq!(names_at(text), names.trim_matches('-'), "{text}");
+    for [text, names] in rows("modules/names.txt") {
+        assert_eq!(names_at(&text), names.trim_matches('-'), "{text}");
     }
 }
 
@@ -108,9 +101,8 @@ fn signature_at(text: &str) -> String {
 
 #[test]
 fn calls_have_signatures() {
-    for row in fs::read_to_string("tests/modules/signatures.txt").unwrap().lines() {
-        let (text, signature) = row.split_once('\t').unwrap();
-        assert_eq!(signature_at(text), signature, "{text}");
+    for [text, signature] in rows("modules/signatures.txt") {
+        assert_eq!(signature_at(&text), signature, "{text}");
     }
 }
 
@@ -160,21 +152,16 @@ fn a_host_declares_names() {
 /// Names are in scope where the check finds them, and any place of any text may be asked.
 #[test]
 fn scopes_are_those_of_the_check() {
-    let list = fs::read_to_string("tests/modules/modules.txt").unwrap();
     let mut count = 0;
-    for quoted in list.lines().filter_map(|line| line.rsplit('\t').next()) {
-        let text = quoted[1..quoted.len() - 1].replace("\\n", "\n").replace("\\\"", "\"");
+    for [_, _, text] in rows("modules/modules.txt") {
         let checked = check(&text);
         for part in &checked.parts {
             let Some(declared) = part.declared else { continue };
             let word = text[part.bytes.clone()].trim_matches(['(', ')', ' ']);
             let names = checked.names_at(part.bytes.start);
             let name = names.into_iter().find(|name| name.text == word).unwrap();
-            assert_eq!(
-                name.bytes.as_ref().map(|bytes| bytes.start),
-                Some(declared),
-                "{word}: {text}"
-            );
+            let start = name.bytes.as_ref().map(|bytes| bytes.start);
+            assert_eq!(start, Some(declared), "{word}: {text}");
             count += 1;
         }
         for end in (0..text.len()).filter(|end| text.is_char_boundary(*end)).step_by(11) {

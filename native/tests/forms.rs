@@ -5,6 +5,7 @@ mod asked;
 mod tables;
 
 use asked::Asked;
+use std::collections::HashMap;
 use std::{env, fs};
 use wgsl_types_proved::mem::StructLayout;
 use wgsl_types_proved::requests::{standard_answer, Error};
@@ -72,6 +73,32 @@ fn parts_are_operands() {
     assert_eq!(part(type_of_member(&pointer, "yy")).referent, Referent::Whole);
     assert_eq!(address_of(&component), Err(Refusal::PtrVecComp));
     assert_eq!(part(load(&component)).referent, Referent::Whole);
+    // Memory that can't be read has no swizzles.
+    let unread = Operand::new("ref<storage, vec3<f32>, write>".parse().unwrap());
+    assert_eq!(type_of_member(&unread, "xy"), Err(Refusal::NotRead));
+    assert_eq!(part(type_of_member(&unread, "x")).referent, Referent::Component);
+}
+
+/// Assignments to swizzles of references: each statement, behind names with their types, is allowed or refused as the WGSL
+/// compiler of a current browser says.
+#[test]
+fn swizzles_are_assigned_to() {
+    let rows = tables::rows::<3>("tables/swizzles.tsv");
+    let (names, statements): (Vec<_>, Vec<_>) = rows.into_iter().partition(|row| row[0] == "name");
+    let names: HashMap<_, _> =
+        names.into_iter().map(|[_, name, ty]| (name, Asked::new(&ty).ty())).collect();
+    assert_eq!(statements.len(), 40);
+    for [verdict, statement, expected] in statements {
+        let mut asked = Asked::new(&statement);
+        asked.names.clone_from(&names);
+        let mut found = answer(&mut asked);
+        if let (true, Ok(ty)) = (asked.take(";"), &found) {
+            asked.names.insert("x".to_string(), ty.parse().expect(ty));
+            found = answer(&mut asked);
+        }
+        assert_eq!(found.is_ok(), verdict == "allowed", "{statement}");
+        assert_eq!(found.unwrap_or_else(|refusal| refusal.to_string()), expected, "{statement}");
+    }
 }
 
 /// A text with WGSL's name of the address space that values display by naga's.
@@ -84,7 +111,7 @@ fn answer(asked: &mut Asked) -> Result<String, Refusal> {
     let found = match asked {
         _ if asked.take("type ") => typed(expression(asked)),
         _ if asked.take("load ") => typed(load(&asked.operand())),
-        _ if asked.take("_ = ") => discard(&asked.operand()),
+        _ if asked.take("_ = ") => discard(&expression(asked)?),
         _ if asked.take("let x") => declared(Declaration::Let, asked),
         _ if asked.take("const x") => declared(Declaration::Const, asked),
         _ if asked.take("override x") => declared(Declaration::Override, asked),
@@ -115,34 +142,46 @@ fn typed(found: Result<Operand, impl Into<Refusal>>) -> Result<Type, Refusal> {
     found.map(|operand| operand.shown_type().clone()).map_err(Into::into)
 }
 
-/// An operator, a call, or an operand with a member or an index behind it.
+/// An operand, a call or what stands in brackets, with operators in front, and members and indexes behind.
 fn expression(asked: &mut Asked) -> Result<Operand, Refusal> {
     if asked.take("&") {
-        let x = asked.operand();
-        let part = if asked.take(".") { type_of_member(&x, asked.word())? } else { x };
-        return address_of(&part);
+        return address_of(&expression(asked)?);
     }
     if asked.take("*") {
-        return indirection(&asked.operand());
+        return indirection(&expression(asked)?);
     }
+    let mut x = primary(asked)?;
+    loop {
+        if asked.take(".") {
+            x = type_of_member(&x, asked.word())?;
+        } else if asked.take("[") {
+            let index = expression(asked)?;
+            asked.expect("]");
+            x = type_of_index(&x, &index)?;
+        } else {
+            return Ok(x);
+        }
+    }
+}
+
+fn primary(asked: &mut Asked) -> Result<Operand, Refusal> {
     if asked.take("array(") {
         return Ok(construct_array(&asked.operands(")"))?);
     }
-    let x = asked.operand();
-    if asked.take(".") {
-        type_of_member(&x, asked.word())
-    } else if asked.take("[") {
-        let index = asked.operand();
-        asked.expect("]");
-        type_of_index(&x, &index)
-    } else {
-        asked.expect("(");
-        let values = asked.operands(")");
-        Ok(match &x.ty {
-            Type::Array(element, count) => construct_array_of(element, *count, &values)?,
-            structure => construct_struct(structure, &values)?,
-        })
+    if asked.take("(") {
+        let x = expression(asked);
+        asked.expect(")");
+        return x;
     }
+    let x = asked.operand();
+    if !asked.take("(") {
+        return Ok(x);
+    }
+    let values = asked.operands(")");
+    Ok(match &x.ty {
+        Type::Array(element, count) => construct_array_of(element, *count, &values)?,
+        structure => construct_struct(structure, &values)?,
+    })
 }
 
 /// A declared type, and a value behind `=`.
@@ -151,7 +190,7 @@ fn declared(declaration: Declaration, asked: &mut Asked) -> Result<Type, Refusal
     if !asked.take("= ") {
         return override_without_value(&ty.expect("a type"));
     }
-    declare(declaration, &asked.operand(), ty.as_ref())
+    declare(declaration, &expression(asked)?, ty.as_ref())
 }
 
 fn stored(asked: &mut Asked) -> Result<Type, Refusal> {
@@ -178,16 +217,12 @@ fn switch(asked: &mut Asked) -> Result<Type, Refusal> {
 
 /// `x = y`, `x += y`, `x++`
 fn assigned(asked: &mut Asked) -> Result<Type, Refusal> {
-    let is_bracketed = asked.take("(");
-    let x = asked.operand();
-    if is_bracketed {
-        asked.expect(")");
-    }
+    let x = expression(asked)?;
     if asked.take("++") || asked.take("--") {
         return increment(&x);
     }
     let operator = asked.until(|c| c == ' ');
-    let y = asked.operand();
+    let y = expression(asked)?;
     let found = assign_by(operator.parse().expect(operator), &x, &y);
     if operator == "=" {
         assert_eq!(assign(&x, &y), found);

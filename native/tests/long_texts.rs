@@ -37,10 +37,8 @@ fn read(repeated: &str) {
     }
     assert!(code(format!("struct S {{ a: {text}"), Language::C).is_err(), "{repeated}");
     assert!(matches!(answer(&text), Err(Error::Unreadable(_))), "{repeated}");
-    assert!(
-        matches!(standard_answer(&format!("type {text}")), Err(Error::Unreadable(_))),
-        "{repeated}"
-    );
+    let asked = format!("type {text}");
+    assert!(matches!(standard_answer(&asked), Err(Error::Unreadable(_))), "{repeated}");
     assert_eq!((text.parse::<Enumerant>(), text.parse::<BinaryOperator>()), (Err(()), Err(())));
     assert!(!is_ctor(&text) && overloads(&text).is_empty() && type_ctor(&text, None, &[]).is_err());
 }

@@ -19,20 +19,23 @@ fn value<T: FromStr<Err = ()> + Display + Debug>(text: &str) -> [String; 2] {
     [format!("{value:?}"), value.to_string()]
 }
 
+/// Which of the types is named, and the value there that a text names.
+macro_rules! value_of {
+    ($name:ident, $text:ident: $($ty:ident)*) => {
+        match &*$name {
+            $(stringify!($ty) => value::<$ty>(&$text),)*
+            _ => panic!("{}", $name),
+        }
+    };
+}
+
 #[test]
 fn each_name_is_read_and_printed() {
     for [ty, name, text] in rows("tables/names.tsv") {
-        let found = match &*ty {
-            "TexelFormat" => value::<TexelFormat>(&text),
-            "BuiltinValue" => value::<BuiltinValue>(&text),
-            "DiagnosticSeverity" => value::<DiagnosticSeverity>(&text),
-            "InterpolationType" => value::<InterpolationType>(&text),
-            "InterpolationSampling" => value::<InterpolationSampling>(&text),
-            "ConservativeDepth" => value::<ConservativeDepth>(&text),
-            "AssignmentOperator" => value::<AssignmentOperator>(&text),
-            "AddressSpace" => value::<AddressSpace>(&text),
-            "Enumerant" => value::<Enumerant>(&text),
-            _ => panic!("{ty}"),
+        let found = value_of! {
+            ty, text:
+            TexelFormat BuiltinValue DiagnosticSeverity InterpolationType InterpolationSampling
+            ConservativeDepth AssignmentOperator AddressSpace Enumerant
         };
         assert_eq!(found, [name, text], "{ty}");
     }

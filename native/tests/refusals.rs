@@ -3,11 +3,13 @@
 mod words;
 
 use wgsl_types_proved::builtin::{type_builtin_fn, typecheck_struct_ctor};
-use wgsl_types_proved::inst::LiteralInstance;
+use wgsl_types_proved::inst::LiteralInstance as Literal;
 use wgsl_types_proved::requests::answer;
-use wgsl_types_proved::syntax::{BinaryOperator, UnaryOperator};
+use wgsl_types_proved::syntax::{BinaryOperator::ShortCircuitOr, UnaryOperator::AddressOf};
 use wgsl_types_proved::tplt::TpltParam;
-use wgsl_types_proved::{CallSignature, Error, Instance, Type};
+use wgsl_types_proved::Error::{self, *};
+use wgsl_types_proved::Type::{self, Bool, F16, F32, I32, U32};
+use wgsl_types_proved::{CallSignature, Instance};
 use words::{one_type, types};
 
 /// Each refusal and its copy print as the message.
@@ -21,52 +23,40 @@ fn expect_messages(rows: &[(Error, &str)]) {
 
 /// The refusals that hold no name and at most leaf types, with their messages.
 const MESSAGES: [(Error, &str); 25] = [
-    (Error::NotConstructible(Type::F16), "`f16` is not constructible"),
+    (NotConstructible(F16), "`f16` is not constructible"),
+    (SampledType(F16), "invalid sampled type, expected `i32`, `u32` or `f32`, got `f16`"),
+    (MissingTemplate("ptr"), "missing template arguments for type `ptr`"),
+    (Conversion(I32, F32), "cannot convert from `i32` to `f32`"),
+    (ConvOverflow(Literal::AbstractInt(-1), U32), "overflow while converting `-1` to `u32`"),
+    (NotIndexable(Bool), "`bool` cannot be indexed"),
+    (ParamType(F32, Bool), "invalid parameter type, expected `f32`, got `bool`"),
+    (WriteRefType(I32, U32), "cannot write a `i32` to a reference to `u32`"),
+    (NotWrite, "attempt to write to a read-only reference"),
+    (NotRead, "attempt to read a write-only reference"),
+    (NotReadWrite, "reference is not read-write"),
+    (PtrHandle, "cannot create a pointer in `handle` address space"),
+    (PtrVecComp, "cannot create a pointer to a vector component"),
+    (Unary(AddressOf, I32), "cannot use unary operator `&` on type `i32`"),
     (
-        Error::SampledType(Type::F16),
-        "invalid sampled type, expected `i32`, `u32` or `f32`, got `f16`",
-    ),
-    (Error::MissingTemplate("ptr"), "missing template arguments for type `ptr`"),
-    (Error::Conversion(Type::I32, Type::F32), "cannot convert from `i32` to `f32`"),
-    (
-        Error::ConvOverflow(LiteralInstance::AbstractInt(-1), Type::U32),
-        "overflow while converting `-1` to `u32`",
-    ),
-    (Error::NotIndexable(Type::Bool), "`bool` cannot be indexed"),
-    (Error::ParamType(Type::F32, Type::Bool), "invalid parameter type, expected `f32`, got `bool`"),
-    (Error::WriteRefType(Type::I32, Type::U32), "cannot write a `i32` to a reference to `u32`"),
-    (Error::NotWrite, "attempt to write to a read-only reference"),
-    (Error::NotRead, "attempt to read a write-only reference"),
-    (Error::NotReadWrite, "reference is not read-write"),
-    (Error::PtrHandle, "cannot create a pointer in `handle` address space"),
-    (Error::PtrVecComp, "cannot create a pointer to a vector component"),
-    (
-        Error::Unary(UnaryOperator::AddressOf, Type::I32),
-        "cannot use unary operator `&` on type `i32`",
-    ),
-    (
-        Error::Binary(BinaryOperator::ShortCircuitOr, Type::I32, Type::Bool),
+        Binary(ShortCircuitOr, I32, Bool),
         "cannot use binary operator `||` with operands `i32` and `bool`",
     ),
     (
-        Error::CompwiseBinary(Type::I32, Type::U32),
+        CompwiseBinary(I32, U32),
         "cannot apply component-wise binary operation on operands `i32` and `u32`",
     ),
-    (Error::AddOverflow, "attempt to add with overflow"),
-    (Error::SubOverflow, "attempt to subtract with overflow"),
-    (Error::MulOverflow, "attempt to multiply with overflow"),
-    (Error::DivByZero, "attempt to divide by zero"),
-    (Error::RemZeroDiv, "attempt to calculate the remainder with a divisor of zero"),
+    (AddOverflow, "attempt to add with overflow"),
+    (SubOverflow, "attempt to subtract with overflow"),
+    (MulOverflow, "attempt to multiply with overflow"),
+    (DivByZero, "attempt to divide by zero"),
+    (RemZeroDiv, "attempt to calculate the remainder with a divisor of zero"),
+    (ShlOverflow(32, Literal::U32(1)), "attempt to shift left by `32`, which would overflow `1u`"),
     (
-        Error::ShlOverflow(32, LiteralInstance::U32(1)),
-        "attempt to shift left by `32`, which would overflow `1u`",
-    ),
-    (
-        Error::ShrOverflow(64, LiteralInstance::I64(-1)),
+        ShrOverflow(64, Literal::I64(-1)),
         "attempt to shift right by `64`, which would overflow `-1li`",
     ),
-    (Error::Builtin("no such texture"), "no such texture"),
-    (Error::TemplateArgs("array"), "invalid template arguments to `array`"),
+    (Builtin("no such texture"), "no such texture"),
+    (TemplateArgs("array"), "invalid template arguments to `array`"),
 ];
 
 #[test]
@@ -77,30 +67,27 @@ fn refusals_print_their_messages() {
 #[test]
 fn refusals_with_names_and_types_print_their_messages() {
     let vector = || one_type("vec 3 f32");
-    let count = Instance::Literal(LiteralInstance::AbstractInt(3));
+    let count = Instance::Literal(Literal::AbstractInt(3));
     let call = CallSignature {
         name: "array".to_string(),
-        tplt: Some(vec![TpltParam::Type(Type::F32), TpltParam::Instance(count)]),
-        args: vec![Type::I32],
+        tplt: Some(vec![TpltParam::Type(F32), TpltParam::Instance(count)]),
+        args: vec![I32],
     };
     expect_messages(&[
-        (Error::Todo("x".to_string()), "not implemented: `x`"),
-        (Error::UnknownType("vec5".to_string()), "unknown type `vec5`"),
+        (Todo("x".to_string()), "not implemented: `x`"),
+        (UnknownType("vec5".to_string()), "unknown type `vec5`"),
+        (UnexpectedTemplate("i32".to_string()), "type `i32` does not take any template arguments"),
+        (Component(F32, "xy".to_string()), "`f32` has no component `xy`"),
         (
-            Error::UnexpectedTemplate("i32".to_string()),
-            "type `i32` does not take any template arguments",
-        ),
-        (Error::Component(Type::F32, "xy".to_string()), "`f32` has no component `xy`"),
-        (
-            Error::ParamCount("vec4".to_string(), 4, 130),
+            ParamCount("vec4".to_string(), 4, 130),
             "incorrect number of arguments to `vec4`, expected `4`, got `130`",
         ),
-        (Error::NotScalar(vector()), "expected a scalar type, got `vec3<f32>`"),
+        (NotScalar(vector()), "expected a scalar type, got `vec3<f32>`"),
         (
-            Error::OutOfBounds(3, vector(), 3),
+            OutOfBounds(3, vector(), 3),
             "index `3` is out-of-bounds for `vec3<f32>` of `3` components",
         ),
-        (Error::Signature(call), "invalid function call signature: `array<f32, 3>(i32)`"),
+        (Signature(call), "invalid function call signature: `array<f32, 3>(i32)`"),
     ]);
 }
 
@@ -116,12 +103,6 @@ fn refusals_differ_if_they_say_different_things() {
             assert_eq!(one == other, index == other_index, "{one} and {other}");
         }
     }
-}
-
-#[test]
-fn no_function_has_the_empty_name() {
-    let refused = type_builtin_fn("", None, &[]).unwrap_err();
-    assert_eq!(refused.to_string(), "invalid function call signature: `()`");
 }
 
 #[test]

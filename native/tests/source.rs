@@ -62,22 +62,15 @@ fn a_module_is_laid_out() {
     let mut of = StructType::new("Light", members);
     of.members[2].align = Some(16);
     let layout = of.layout().unwrap();
-    assert_eq!(
-        (light.name.as_str(), light.size, light.align),
-        ("Light", layout.size, layout.align)
-    );
+    assert_eq!((&*light.name, light.size, light.align), ("Light", layout.size, layout.align));
     for (member, placed) in light.members.iter().zip(&layout.members) {
-        assert_eq!(
-            (member.offset, member.size, member.align),
-            (placed.offset, placed.size, placed.align)
-        );
+        let measured = (member.offset, member.size, member.align);
+        assert_eq!(measured, (placed.offset, placed.size, placed.align));
     }
     assert_eq!((light.is_runtime_sized, particles.is_runtime_sized), (false, true));
     let items = &particles.members[1];
-    assert_eq!(
-        (items.ty.to_string().as_str(), items.offset, items.stride),
-        ("array<Light>", 16, Some(32))
-    );
+    assert_eq!(items.ty.to_string(), "array<Light>");
+    assert_eq!((items.offset, items.stride), (16, Some(32)));
     assert_eq!(particles.members[0].padding, 12);
     assert_eq!((light.members[0].padding, light.members[2].padding), (0, 8));
     let of_text = layouts("struct A { b: B, c: C } struct C { d: u32 } struct B { c: C }");
@@ -92,16 +85,12 @@ fn variables_and_findings_are_told() {
     let particles = variable("particles");
     assert_eq!((particles.group, particles.binding), (Some(0), Some(1)));
     assert_eq!((particles.space, particles.access), (AddressSpace::Storage, AccessMode::ReadWrite));
-    assert_eq!(
-        (&particles.ty, particles.min_binding_size),
-        (&TypeTree::Struct("Particles".into()), Some(48))
-    );
+    assert_eq!(particles.ty, TypeTree::Struct("Particles".into()));
+    assert_eq!(particles.min_binding_size, Some(48));
     assert_eq!(particles.resource, Some(Resource::StorageBuffer));
     assert_eq!(variable("weights").resource, Some(Resource::UniformBuffer));
-    assert_eq!(
-        variable("map").resource,
-        Some(Resource::Texture(TextureType::Sampled2D(SampledType::F32)))
-    );
+    let texture = TextureType::Sampled2D(SampledType::F32);
+    assert_eq!(variable("map").resource, Some(Resource::Texture(texture)));
     assert_eq!(variable("counter").resource, None);
     assert_eq!((variable("map").space, variable("map").size), (AddressSpace::Handle, None));
     let counter = variable("counter");
@@ -117,7 +106,7 @@ fn variables_and_findings_are_told() {
 #[test]
 fn address_spaces_hold_what_browsers_let_them_hold() {
     let rows = tables::rows::<2>("tables/spaces.tsv");
-    assert_eq!(rows.len(), 25);
+    assert_eq!(rows.len(), 27);
     for [verdict, text] in rows {
         let module = layouts(&text);
         let told: Vec<&Message> = module.errors.iter().chain(&module.findings).collect();
@@ -174,17 +163,16 @@ fn what_a_pipeline_asks_is_told() {
 #[test]
 fn places_and_kinds_are_told() {
     let module = layouts(
-        "struct A {\n  a: f32,\n  é: vec3f }\nvar<uniform> b: A;\nstruct C { \u{1d11e}é: x }",
+        "struct A {\n  a: f32,\n  é: vec3f }\nvar<uniform> b: A;\nstruct C { \u{1d11e}é: /* ต */ x }",
     );
+    let told = |of: &Place| (of.line, of.column, of.utf16_column);
     let [of] = &module.structs[..] else { panic!("{:?}", module.structs) };
-    assert_eq!((of.place.line, of.place.column), (1, 8));
-    assert_eq!((of.members[1].place.line, of.members[1].place.column), (3, 3));
+    assert_eq!((told(&of.place), told(&of.members[1].place)), ((1, 8, 8), (3, 3, 3)));
     let [variable] = &module.variables[..] else { panic!("{:?}", module.variables) };
-    assert_eq!((variable.place.line, variable.place.column, variable.size), (4, 14, Some(32)));
+    assert_eq!((told(&variable.place), variable.size), ((4, 14, 14), Some(32)));
     let [error] = &module.errors[..] else { panic!("{:?}", module.errors) };
-    assert_eq!((error.start.line, error.start.column, error.start.utf16_column), (5, 20, 17));
-    assert_eq!((error.end.utf16_column, error.kind.as_str()), (18, "UnknownName"));
-    assert_eq!(module.findings[0].kind, "NoBinding");
+    assert_eq!((told(&error.start), told(&error.end)), ((5, 30, 25), (5, 31, 26)));
+    assert_eq!((&*error.kind, &*module.findings[0].kind), ("UnknownName", "NoBinding"));
 }
 
 #[test]
@@ -197,23 +185,15 @@ fn types_are_trees() {
         @group(0) @binding(3) var i: binding_array<texture_2d<f32>, 4>;",
     );
     let spelled: Vec<String> = module.variables.iter().map(|of| of.ty.to_string()).collect();
-    assert_eq!(
-        spelled,
-        [
-            "array<f32, override>",
-            "ptr<storage, array<f32>, read_write>",
-            "sampler_comparison",
-            "texture_storage_2d<rg11b10ufloat, write>",
-            "binding_array<texture_2d<f32>, 4>"
-        ]
-    );
+    let wanted =
+        "array<f32, override> | ptr<storage, array<f32>, read_write> | sampler_comparison | \
+        texture_storage_2d<rg11b10ufloat, write> | binding_array<texture_2d<f32>, 4>";
+    assert_eq!(spelled.join(" | "), wanted);
     let TypeTree::Array { element, count, stride } = &module.variables[0].ty else { panic!() };
     assert_eq!((count, stride), (&ElementCount::Override, &Some(4)));
     assert_eq!(**element, TypeTree::Leaf(Type::F32));
-    assert_eq!(
-        module.variables[2].resource,
-        Some(Resource::Sampler(SamplerType::SamplerComparison))
-    );
+    let sampler = Resource::Sampler(SamplerType::SamplerComparison);
+    assert_eq!(module.variables[2].resource, Some(sampler));
     assert_eq!(module.variables[4].resource, Some(Resource::Other));
 }
 
@@ -239,10 +219,8 @@ fn declared_types_are_types() {
 #[test]
 fn types_that_cannot_be_given_are_left_out() {
     let named = |text: &str| types(text).into_keys().collect::<Vec<_>>();
-    assert_eq!(
-        named("override N = 2; alias A = array<f32, N>; alias B = f32; alias C = nope;"),
-        ["B"]
-    );
+    let text = "override N = 2; alias A = array<f32, N>; alias B = f32; alias C = nope;";
+    assert_eq!(named(text), ["B"]);
     let twice =
         |n| (1..n).map(|at| format!("struct S{at} {{ a: S{0}, b: S{0} }}", at - 1)).collect();
     let doubled: String = twice(40);

@@ -65,7 +65,7 @@ fn each_literal_is_read_by_each_door() {
 #[test]
 fn what_is_no_type_has_a_place_and_a_cause() {
     let rows = rows("causes");
-    assert_eq!(rows.len(), 45);
+    assert_eq!(rows.len(), 46);
     for [text, told] in rows {
         let answer = match text.parse::<Type>() {
             Ok(ty) => ty.to_string(),

@@ -98,33 +98,21 @@ fn three_types_are_sampled() {
     assert_eq!(refused.to_string(), message);
 }
 
-type Predicate = fn(&Type) -> bool;
-
-const KINDS: [(&str, Predicate); 18] = [
-    ("scalar", Type::is_scalar),
-    ("numeric", Type::is_numeric),
-    ("integer", Type::is_integer),
-    ("float", Type::is_float),
-    ("abstract", Type::is_abstract),
-    ("concrete", Type::is_concrete),
-    ("storable", Type::is_storable),
-    ("array", Type::is_array),
-    ("vec", Type::is_vec),
-    ("mat", Type::is_mat),
-    ("bool", Type::is_bool),
-    ("i32", Type::is_i32),
-    ("u32", Type::is_u32),
-    ("f32", Type::is_f32),
-    ("i64", Type::is_i64),
-    ("u64", Type::is_u64),
-    ("f64", Type::is_f64),
-    ("abstract_int", Type::is_abstract_int),
-];
+/// Predicates with their names.
+macro_rules! predicates {
+    ($($predicate:ident)*) => {
+        [$((stringify!($predicate), Type::$predicate as fn(&Type) -> bool)),*]
+    };
+}
 
 /// The kinds that a type is of.
 fn kinds(ty: &Type) -> String {
-    let of = KINDS.iter().filter(|(_, is_of_kind)| is_of_kind(ty));
-    of.map(|(kind, _)| *kind).collect::<Vec<_>>().join(" ")
+    let all = predicates! {
+        is_scalar is_numeric is_integer is_float is_abstract is_concrete is_storable is_array is_vec is_mat
+        is_bool is_i32 is_u32 is_f32 is_i64 is_u64 is_f64 is_abstract_int
+    };
+    let of = all.iter().filter(|(_, is_of_kind)| is_of_kind(ty));
+    of.map(|(name, _)| name.trim_start_matches("is_")).collect::<Vec<_>>().join(" ")
 }
 
 /// The size, the alignment and the least size of a type.

@@ -2,6 +2,7 @@
 
 use super::Type;
 use crate::proved::wgsl_reader::{expected, lists, rule::Rule};
+use crate::proved::wgsl_report::message;
 use crate::proved::wgsl_spelling::fault::{Cause, Fault};
 use crate::proved::wgsl_spelling::{meant::meant, spelled::type_of_text};
 use crate::reader::{read, Token};
@@ -9,7 +10,6 @@ use crate::shim::always;
 use crate::shim::std::alloc::Global;
 use alloc::format;
 use alloc::string::String;
-use alloc::vec::Vec;
 use core::fmt;
 use core::str::FromStr;
 
@@ -63,9 +63,6 @@ impl Type {
     }
 }
 
-/// How many characters of a word a message quotes.
-const QUOTED: usize = 40;
-
 #[cold]
 fn misspelt(text: &str, fault: Fault) -> SpellingError {
     let tokens = always(lists::tokens_of(Global, text.as_bytes())).unwrap_or_default();
@@ -100,10 +97,8 @@ fn expected_at(tokens: &[Token], index: usize) -> String {
 
 /// The beginning of a word, and dots for what follows.
 fn beginning(word: &str) -> String {
-    let mut letters = word.chars();
-    let quoted: Vec<char> = letters.by_ref().take(QUOTED).collect();
-    let dots = if letters.next().is_some() { ".." } else { "" };
-    quoted.into_iter().flat_map(char::escape_debug).chain(dots.chars()).collect()
+    let (quoted, dots) = message::beginning(word);
+    quoted.chars().flat_map(char::escape_debug).chain(dots.chars()).collect()
 }
 
 impl fmt::Display for SpellingError {

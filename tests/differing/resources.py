@@ -17,25 +17,11 @@ SAMPLERS = ["sampler", "sampler_comparison"]
 
 # What an argument of a right call is exchanged for.
 OTHERS = (
-    "f32 i32 u32 bool AbstractInt AbstractFloat f16 i64 sampler sampler_comparison texture_depth_2d texture_external "
-    "texture_depth_multisampled_2d"
-).split() + [
-    "vec 2 f32",
-    "vec 3 f32",
-    "vec 4 f32",
-    "vec 2 i32",
-    "vec 3 u32",
-    "vec 4 i32",
-    "vec 2 AbstractInt",
-    "vec 3 AbstractFloat",
-    "texture_2d f32",
-    "texture_2d u32",
-    "texture_cube_array i32",
-    "texture_multisampled_2d f32",
-    "texture_storage_2d rgba8unorm read_write",
-    "ref function read_write vec 2 f32",
-    "ref private read_write i32",
-]
+    "f32, i32, u32, bool, AbstractInt, AbstractFloat, f16, i64, sampler, sampler_comparison, texture_depth_2d, texture_external, "
+    "texture_depth_multisampled_2d, vec 2 f32, vec 3 f32, vec 4 f32, vec 2 i32, vec 3 u32, vec 4 i32, vec 2 AbstractInt, "
+    "vec 3 AbstractFloat, texture_2d f32, texture_2d u32, texture_cube_array i32, texture_multisampled_2d f32, "
+    "texture_storage_2d rgba8unorm read_write, ref function read_write vec 2 f32, ref private read_write i32"
+).split(", ")
 
 ATOMIC_OF_TWO = "atomicAdd atomicAnd atomicExchange atomicMax atomicMin atomicOr atomicStore atomicSub atomicXor".split()
 ATOMIC = ["atomicLoad"] + ATOMIC_OF_TWO + ["atomicCompareExchangeWeak"]

@@ -30,28 +30,12 @@ def third_is_abstract_int(d):
     return d.is_narrower and is_vector(d.types[0]) and d.types[2] == "AbstractInt"
 
 
-def mixes_values(d):
-    return first_of(ABSTRACT_INT)(d) and (is_vector(d.types[2]) or not is_vector(d.types[0]))
-
-
-def differs_in_abstractness(d):
-    return d.is_narrower and len({is_abstract(t) for t in d.types}) == 2
-
-
-def scales_by_64_bits(d):
-    return d.is_narrower and of({"i64"}, d.types[1])
-
-
 def is_wider(d):
     return d.is_wider
 
 
 def takes_bool(d):
     return d.is_wider and d.command == "binary" and any(of(BOOL, t) for t in d.types)
-
-
-def is_of_two_bools(d):
-    return d.is_narrower and d.types == ("bool", "bool")
 
 
 def negates(d):
@@ -61,67 +45,20 @@ def negates(d):
     return d.is_wider and t in ("u32", "u64", "bool") or d.is_narrower and is_vector(t)
 
 
-def inverts_vector(d):
-    return d.is_wider and is_vector(d.types[0]) and not of(BOOL, d.types[0])
-
-
 def stays_abstract(d):
     """Not all operands are const-expressions, and WGSL makes concrete what the answer here is."""
     both = d.ours is not None and d.theirs is not None
     return both and not all(d.constant) and is_abstract(d.ours) and d.theirs == concrete(d.ours)
 
 
-def tests_no_bool(d):
-    return d.is_wider and len(d.types) == 1 and not of(BOOL, d.types[0])
-
-
-def are_of_two_lengths(t, u):
-    return is_vector(t) and is_vector(u) and count_of(t) != count_of(u)
-
-
 def differs_in_length(i, j):
-    return lambda d: d.is_wider and are_of_two_lengths(d.types[i], d.types[j])
+    """A call that is taken here, of vectors of two lengths."""
+    return lambda d: d.is_wider and is_vector(d.types[i]) and is_vector(d.types[j]) and count_of(d.types[i]) != count_of(d.types[j])
 
 
 def keeps(scalar, other):
     """The answer has the abstract scalar of the argument where WGSL's has the other scalar."""
     return lambda d: of({scalar}, d.types[0]) and scalar in (d.ours or "") and d.theirs == d.ours.replace(scalar, other)
-
-
-def takes_unsigned(d):
-    return d.is_wider and len(d.types) == 1 and of({"u64"}, d.types[0])
-
-
-def inserts_float(d):
-    return d.is_wider and of(ABSTRACT_INT, d.types[0]) and of(FLOATS, d.types[1])
-
-
-def packs_floats(d):
-    return (d.is_wider or d.is_narrower) and len(d.types) == 1 and is_vector(d.types[0])
-
-
-def shuffles_by_integer(d):
-    return d.is_wider and d.types[1] in INTEGERS - {"u32"}
-
-
-def has_no_argument(d):
-    return d.is_wider and not d.types
-
-
-def is_texture_call(d):
-    return d.is_wider and d.name.startswith("texture")
-
-
-def is_atomic_call(d):
-    return d.is_wider and d.name.startswith("atomic")
-
-
-def loads_other(d):
-    return d.is_wider and d.types[0].startswith("ptr workgroup ")
-
-
-def returns_atomic(d):
-    return d.ours == f"atomic<{d.theirs}>"
 
 
 def is_matrix(d):
@@ -142,16 +79,15 @@ def makes_f32(d):
 # References are loaded by tests/differences, which asks what the answer is then.
 REFERENCES = Rule("an operand that is a reference", lambda d: False)
 
+# Functions that take no abstract integer as their first argument, each with a row of its own.
+OF_FLOATS = "atan2 step distance reflect fma smoothstep faceForward length normalize".split()
 RULES = [
-    Rule("`atan2`", first_of(ABSTRACT_INT)),
-    Rule("`step`", first_of(ABSTRACT_INT)),
-    Rule("`distance`", first_of(ABSTRACT_INT)),
+    *(Rule(f"`{name}`", first_of(ABSTRACT_INT)) for name in OF_FLOATS),
     Rule("`cross`", first_of(ABSTRACT_INT), second="the first argument is a vector of AbstractInt"),
-    Rule("`reflect`", first_of(ABSTRACT_INT)),
-    Rule("`fma`", first_of(ABSTRACT_INT)),
-    Rule("`smoothstep`", first_of(ABSTRACT_INT)),
-    Rule("`faceForward`", first_of(ABSTRACT_INT)),
-    Rule("`mix` of three scalars or three vectors", mixes_values),
+    Rule(
+        "`mix` of three scalars or three vectors",
+        lambda d: first_of(ABSTRACT_INT)(d) and (is_vector(d.types[2]) or not is_vector(d.types[0])),
+    ),
     Rule("`mix` of two vectors and a scalar", third_is_abstract_int),
     Rule("`refract`", third_is_abstract_int),
     Rule(
@@ -160,8 +96,6 @@ RULES = [
         "`trunc`",
         first_of(ABSTRACT_INT),
     ),
-    Rule("`length`", first_of(ABSTRACT_INT)),
-    Rule("`normalize`", first_of(ABSTRACT_INT)),
     Rule("`quantizeToF16`", first_of(ABSTRACT_INT), second="the argument is AbstractInt or a vector of it"),
     Rule(
         "`dpdx`, `dpdxCoarse`, `dpdxFine`, `dpdy`, `dpdyCoarse`, `dpdyFine`, `fwidth`, `fwidthCoarse`, `fwidthFine`",
@@ -169,38 +103,45 @@ RULES = [
     ),
     Rule("`frexp`, `modf`", first_of(ABSTRACT_INT)),
     Rule("`ldexp`", first_of(ABSTRACT_INT), second="the first argument is AbstractInt or a vector of it"),
-    Rule("`ldexp`", differs_in_abstractness, second="one argument is abstract and the other is not"),
-    Rule("`ldexp`", scales_by_64_bits, second="the second argument is `i64` or a vector of it"),
+    Rule(
+        "`ldexp`",
+        lambda d: d.is_narrower and len({is_abstract(t) for t in d.types}) == 2,
+        second="one argument is abstract and the other is not",
+    ),
+    Rule("`ldexp`", lambda d: d.is_narrower and of({"i64"}, d.types[1]), second="the second argument is `i64` or a vector of it"),
     Rule("`+`, `-`, `*`, `/`, `%`", takes_bool),
     Rule("`<`, `<=`, `>`, `>=`", takes_bool),
-    Rule("`|`, `&` of two `bool`", is_of_two_bools, names="| &"),
+    Rule("`|`, `&` of two `bool`", lambda d: d.is_narrower and d.types == ("bool", "bool"), names="| &"),
     Rule("unary `-`", negates),
-    Rule("`!`", inverts_vector),
+    Rule("`!`", lambda d: d.is_wider and is_vector(d.types[0]) and not of(BOOL, d.types[0])),
     REFERENCES,
     Rule("an abstract operand beside one of the runtime", stays_abstract),
-    Rule("`all`, `any`", tests_no_bool),
+    Rule("`all`, `any`", lambda d: d.is_wider and len(d.types) == 1 and not of(BOOL, d.types[0])),
     Rule("`arrayLength`", is_wider),
     Rule("`pow`", is_wider, second="takes any two types with a common type"),
     Rule("`pow`", keeps("AbstractInt", "AbstractFloat"), second="keeps AbstractInt"),
-    Rule("`sign`", takes_unsigned),
+    Rule("`sign`", lambda d: d.is_wider and len(d.types) == 1 and of({"u64"}, d.types[0])),
     Rule("`cross`", is_wider, second="takes vectors of any length"),
     Rule("`select`", differs_in_length(0, 2)),
     Rule("`ldexp`", differs_in_length(0, 1), second="doesn't compare the lengths of its vectors"),
     Rule(
         "`insertBits`",
-        inserts_float,
+        lambda d: d.is_wider and of(ABSTRACT_INT, d.types[0]) and of(FLOATS, d.types[1]),
         second="takes a float as its second argument if the first is an abstract integer",
     ),
     Rule("`reverseBits`", keeps("AbstractInt", "i32")),
     Rule("`quantizeToF16`", keeps("AbstractFloat", "f32"), second="keeps an abstract type"),
-    Rule("`pack4xI8Clamp`, `pack4xU8Clamp`", packs_floats),
+    Rule("`pack4xI8Clamp`, `pack4xU8Clamp`", lambda d: (d.is_wider or d.is_narrower) and len(d.types) == 1 and is_vector(d.types[0])),
     Rule("`bitcast`", is_wider),
-    Rule("`subgroupShuffleUp`, `subgroupShuffleDown`, `subgroupShuffleXor`", shuffles_by_integer),
-    Rule("`subgroupBallot`", has_no_argument),
-    Rule("texture functions", is_texture_call),
-    Rule("atomic functions", is_atomic_call),
-    Rule("`workgroupUniformLoad`", loads_other),
-    Rule("`workgroupUniformLoad` of an atomic", returns_atomic),
+    Rule(
+        "`subgroupShuffleUp`, `subgroupShuffleDown`, `subgroupShuffleXor`",
+        lambda d: d.is_wider and d.types[1] in INTEGERS - {"u32"},
+    ),
+    Rule("`subgroupBallot`", lambda d: d.is_wider and not d.types),
+    Rule("texture functions", lambda d: d.is_wider and d.name.startswith("texture")),
+    Rule("atomic functions", lambda d: d.is_wider and d.name.startswith("atomic")),
+    Rule("`workgroupUniformLoad`", lambda d: d.is_wider and d.types[0].startswith("ptr workgroup ")),
+    Rule("`workgroupUniformLoad` of an atomic", lambda d: d.ours == f"atomic<{d.theirs}>"),
     Rule("constructors of matrices", miscounts_column),
     Rule("constructors of matrices without a template, of AbstractInt", makes_f32),
 ]

@@ -81,27 +81,20 @@ uint8_t wgsl_explain(const uint8_t *bytes, size_t len, uint8_t *room, size_t roo
     return say(request, request + len, room, room_len, text_len);
 }
 
-uint8_t wgsl_standard_answer(const uint8_t *bytes, size_t len, uint8_t *room, size_t room_len, size_t *text_len) {
-    return wgsl_answer(bytes, len, room, room_len, text_len);
-}
-
-uint8_t wgsl_standard_explain(const uint8_t *bytes, size_t len, uint8_t *room, size_t room_len, size_t *text_len) {
-    return wgsl_explain(bytes, len, room, room_len, text_len);
-}
+#define AS(name, other) \
+    uint8_t name(const uint8_t *bytes, size_t len, uint8_t *room, size_t room_len, size_t *text_len) { \
+        return other(bytes, len, room, room_len, text_len); \
+    }
+AS(wgsl_standard_answer, wgsl_answer)
+AS(wgsl_standard_explain, wgsl_explain)
+AS(wgsl_source_layout, wgsl_answer)
+AS(wgsl_module_check, wgsl_answer)
 
 #ifndef OTHER_VERSION
 #define OTHER_VERSION WGSL_VERSION
 #endif
 
 const char *wgsl_version(void) { return OTHER_VERSION; }
-
-uint8_t wgsl_source_layout(const uint8_t *bytes, size_t len, uint8_t *room, size_t room_len, size_t *text_len) {
-    return wgsl_answer(bytes, len, room, room_len, text_len);
-}
-
-uint8_t wgsl_module_check(const uint8_t *bytes, size_t len, uint8_t *room, size_t room_len, size_t *text_len) {
-    return wgsl_answer(bytes, len, room, room_len, text_len);
-}
 
 uint8_t wgsl_source_code(const uint8_t *bytes, size_t len, uint8_t *room, size_t room_len, size_t *text_len, uint8_t language) {
     return language == WGSL_NUMPY ? wgsl_answer(bytes, len, room, room_len, text_len) : WGSL_UNREADABLE;

@@ -8,15 +8,15 @@ use wgsl_types_proved::syntax::{AccessMode, AddressSpace, RuleSet};
 use wgsl_types_proved::ty::{StructMemberType, StructType};
 use wgsl_types_proved::Type;
 
-/// The text that isn't read yet, and the structs that are declared in front of it.
+/// The text that isn't read yet, and what names stand for, such as the structs that are declared in front of it.
 pub struct Asked<'a> {
     rest: &'a str,
-    structs: HashMap<&'a str, Type>,
+    pub names: HashMap<String, Type>,
 }
 
 impl<'a> Asked<'a> {
     pub fn new(request: &'a str) -> Asked<'a> {
-        let mut asked = Asked { rest: request, structs: HashMap::new() };
+        let mut asked = Asked { rest: request, names: HashMap::new() };
         while asked.take("struct ") {
             asked.structure();
         }
@@ -102,8 +102,8 @@ impl<'a> Asked<'a> {
 
     pub fn ty(&mut self) -> Type {
         let name = self.word();
-        if let Some(structure) = self.structs.get(name) {
-            return structure.clone();
+        if let Some(ty) = self.names.get(name) {
+            return ty.clone();
         }
         if !self.rest.starts_with('<') {
             return name.parse().expect(name);
@@ -150,7 +150,7 @@ impl<'a> Asked<'a> {
             StructMemberType { name, size, align, ty: asked.declared().expect("a type") }
         });
         let structure = StructType { name: name.to_string(), members };
-        self.structs.insert(name, structure.clone().into());
+        self.names.insert(name.to_string(), structure.clone().into());
         structure
     }
 

@@ -10,7 +10,7 @@ pub fn rows<const CELLS: usize>(path: &str) -> Vec<[String; CELLS]> {
     rows
 }
 
-/// The text of a cell: in quotes `\n`, `\t` and `\u200e` are what can't be seen, anywhere `«3 ab»` is `ababab`.
+/// The text of a cell: in quotes `\n`, `\t` and `\u200e` are what can't be seen, and `\"` is a quote; anywhere `«3 ab»` is `ababab`.
 fn cell(cell: &str) -> String {
     match cell.strip_prefix('"').and_then(|cell| cell.strip_suffix('"')) {
         Some(quoted) => repeated(&unescaped(quoted)),
@@ -34,6 +34,7 @@ fn unescaped(quoted: &str) -> String {
     parts.fold(front, |text, part| match part.split_at(1) {
         ("n", rest) => text + "\n" + rest,
         ("t", rest) => text + "\t" + rest,
+        ("\"", rest) => text + "\"" + rest,
         (_, rest) => {
             let letter = u32::from_str_radix(&rest[..4], 16).ok().and_then(char::from_u32);
             format!("{text}{}{}", letter.expect(quoted), &rest[4..])
