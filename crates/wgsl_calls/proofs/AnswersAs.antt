@@ -1,9 +1,6 @@
 -- The answer of a call by the answer of another.
 use Rattle.std.proofs.Common.{Result, Ok, Err}
-use Rattle.wgsl_rules.specs.errors.Refusals.{Refusal}
-use Rattle.wgsl_core.specs.Answer.{AnswersAs, refusal}
-use Rattle.wgsl_core.specs.declared.error.Error.{Error}
-use Rattle.wgsl_core.specs.declared.error.Fail.{Fail}
+use Rattle.wgsl_calls.proofs.Common.{Refusal, AnswersAs, refusal, Error, Fail}
 use Rattle.wgsl_core.specs.declared.error.Fail.TheVariants as fails
 
 -- answers that satisfy P satisfy a Q that follows from P

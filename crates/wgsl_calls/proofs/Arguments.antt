@@ -1,23 +1,7 @@
 -- Arguments one after another, and the members of a struct beside them.
-use Rattle.std.proofs.Common.{Bool, true, false, true≢false, IsTrue, ◌↔◌, ◌≡◌, ℕ, ◌+◌, ◌<◌, ◌≤◌, suc, List, [], ◌∷◌, length, drop, drop-cons, add-one, map, slice_index_or, All, Option, Some, None, option_map, refl, sym, ap, subst, ◌∙◌, inl, inr}
-use Rattle.std.proofs.lemmas.List.{drop_all, get_or-map, length-map}
-use Rattle.std.proofs.lemmas.List.Elements.{All-cons}
-use Rattle.wgsl_rules.specs.types.Types.{WgslType, Members, no_members, member}
-use Rattle.wgsl_rules.specs.conversion.Conversion.{ConvertsTo}
-use Rattle.std.specs.Borrow.{Bor}
-use Rattle.wgsl_rules.specs.conversion.Common.{IsLeftCommon, of_no_types}
-use Rattle.wgsl_rules.proofs.conversion.Folds.{IsFoldedFrom, folded}
-use Rattle.wgsl_rules.specs.types.Inner.{inner_of}
-use Rattle.wgsl_rules.specs.constructors.Constructors.{member_count, AllFit, IsFirstMisfit}
-use Rattle.wgsl_core.specs.View.{view, member_view}
-use Rattle.wgsl_core.specs.internal.View.{members_view}
-use Rattle.wgsl_core.specs.declared.ty.Type.{«Type»}
+use Rattle.std.proofs.Common.{Bool, true, false, true≢false, IsTrue, ◌↔◌, ◌≡◌, ℕ, ◌+◌, ◌<◌, ◌≤◌, suc, List, [], ◌∷◌, length, drop, drop-cons, add-one, map, slice_index_or, All, Option, Some, None, option_map, refl, sym, ap, subst, ◌∙◌, inl, inr, Bor}
+use Rattle.wgsl_calls.proofs.Common.{drop_all, get_or-map, length-map, All-cons, WgslType, Members, no_members, member, ConvertsTo, IsLeftCommon, of_no_types, IsFoldedFrom, folded, inner_of, member_count, AllFit, IsFirstMisfit, view, member_view, members_view, «Type», view-ty, IsStuckAt, IsMisfitAt}
 use Rattle.wgsl_core.specs.declared.ty.StructMemberType.{StructMemberType, out-StructMemberType}
-use Rattle.wgsl_core.proofs.Recognition.{view-ty}
-use Rattle.wgsl_calls.specs.internal.Constructors.{IsStuckAt, IsMisfitAt}
-
-pub from_argument : List «Type» → ℕ → List WgslType
-from_argument args i = map view (drop i args)
 
 pub argument_at : (args : List «Type») (i : ℕ) (x : «Type») → i < length args → x ≡ slice_index_or args i x →
     map view (drop i args) ≡ view x ∷ map view (drop (i + 1) args)

@@ -1,13 +1,7 @@
 -- What a family of candidates makes of arguments: the result of its least candidate, or a refusal.
 use Rattle.std.proofs.Common.{◌≡◌, ℕ, ◌⊎◌, List, Some, None, Ok, Err, true≢false, All, refl, sym, ◌∙◌, ap, subst, inl, inr}
-use Rattle.wgsl_rules.specs.types.Types.{WgslType}
-use Rattle.wgsl_rules.specs.conversion.Conversion.{IsValueType}
-use Rattle.wgsl_rules.specs.conversion.Common.{IsLeftCommon}
-use Rattle.wgsl_rules.specs.errors.Refusals.{Refusal}
-use Rattle.wgsl_rules.specs.operators.Choice.{HasRanks, Takes, IsNowhereMore, IsSomewhereLess}
-use Rattle.wgsl_rules.proofs.operators.Families.{Slot, fill_all, IsPut, HasOpen, IsLeastOf, least_of, none_of}
+use Rattle.wgsl_calls.proofs.Common.{WgslType, IsValueType, IsLeftCommon, Refusal, HasRanks, Takes, IsNowhereMore, IsSomewhereLess, Slot, fill_all, IsPut, HasOpen, IsLeastOf, least_of, none_of, IsLeastAmong, IsLeastMade}
 use Rattle.wgsl_rules.proofs.operators.Choices.{contrary}
-use Rattle.wgsl_calls.specs.Constructors.{IsLeastAmong, IsLeastMade}
 
 least_once : (C : List WgslType → WgslType → Type 0) (ts us vs : List WgslType) (r s : WgslType) → IsLeastAmong C ts us r → IsLeastAmong C ts vs s → r ≡ s
 least_once C ts us vs r s a b =

@@ -1,19 +1,6 @@
 -- What constructors of arrays and scalars make of value types is the result of the least candidate.
 use Rattle.std.proofs.Common.{◌≡◌, ℕ, List, [], ◌∷◌, length, Option, Some, None, Result, Ok, Err, All, codes, ok_or, refl, sym, ◌∙◌, ap, subst, inl, inr, arith}
-use Rattle.std.proofs.lemmas.List.Elements.{All-nil, All-cons, All-head, All-tail}
-use Rattle.wgsl_rules.specs.types.Types.{array_of, WgslType, within, array}
-use Rattle.wgsl_rules.specs.types.Signatures.{Parameter}
-use Rattle.wgsl_rules.specs.conversion.Conversion.{IsValueType}
-use Rattle.wgsl_rules.specs.conversion.Common.{IsLeftCommon}
-use Rattle.wgsl_rules.proofs.conversion.Folds.{folded}
-use Rattle.wgsl_rules.specs.errors.Refusals.{Refusal, builtin}
-use Rattle.wgsl_rules.specs.Headline.{Receives}
-use Rattle.wgsl_rules.specs.operators.Choice.{HasRanks, Takes}
-use Rattle.wgsl_rules.specs.templates.Templates.{array_template}
-use Rattle.wgsl_rules.specs.constructors.Steps.{Then, IsFirstStuck}
-use Rattle.wgsl_rules.specs.constructors.Constructors.{IsTypedArray, IsArrayCall}
-use Rattle.wgsl_rules.proofs.conversion.Commons.{receives_nil, receives_cons, receives_head, receives_tail}
-use Rattle.wgsl_rules.proofs.operators.Families.{Slot, whole, fill_all, IsPut, puts_taken}
+use Rattle.wgsl_calls.proofs.Common.{All-nil, All-cons, All-head, All-tail, array_of, WgslType, within, array, Parameter, IsValueType, IsLeftCommon, folded, Refusal, builtin, Receives, HasRanks, Takes, array_template, Then, IsFirstStuck, IsTypedArray, IsArrayCall, receives_nil, receives_cons, receives_head, receives_tail, Slot, whole, fill_all, IsPut, puts_taken}
 use Rattle.wgsl_calls.specs.Constructors.{AreAll, IsArrayCandidate, array_elements, typed_array_zero, typed_array_elements, IsLeastMade}
 use Rattle.wgsl_calls.proofs.ChosenAmong.{least_made, none_made, least_member, no_member, only_one, IsMember}
 

@@ -1,19 +1,7 @@
 -- What a constructor makes of value types is the result of its least candidate.
 use Rattle.std.proofs.Common.{ℕ, List, Option, Some, None, Result, Ok, Err, All, sym, subst}
-use Rattle.wgsl_rules.specs.types.Types.{WgslType}
-use Rattle.wgsl_rules.specs.types.Signatures.{Parameter, Signature}
-use Rattle.wgsl_rules.specs.conversion.Conversion.{IsValueType}
-use Rattle.wgsl_rules.specs.errors.Refusals.{Refusal, signature}
-use Rattle.wgsl_rules.specs.templates.Templates.{IsVecTemplate, IsMatTemplate}
-use Rattle.wgsl_rules.specs.constructors.Steps.{Then}
-use Rattle.wgsl_rules.specs.constructors.Vectors.{IsTypedVector, IsVectorCall}
-use Rattle.wgsl_rules.specs.constructors.Matrices.{IsTypedMatrix, IsMatrixCall}
+use Rattle.wgsl_calls.proofs.Common.{WgslType, Parameter, Signature, IsValueType, Refusal, signature, IsVecTemplate, IsMatTemplate, Then, IsTypedVector, IsVectorCall, IsTypedMatrix, IsMatrixCall, view, AnswersBy, «Type», Error, Fail}
 use Rattle.wgsl_rules.specs.constructors.Constructors.{Constructor, makes_array, makes_scalar, makes_vector, makes_matrix, constructor_of, IsBuilt, IsConstructorAnswer}
-use Rattle.wgsl_core.specs.View.{view}
-use Rattle.wgsl_core.specs.Answer.{AnswersBy}
-use Rattle.wgsl_core.specs.declared.ty.Type.{«Type»}
-use Rattle.wgsl_core.specs.declared.error.Error.{Error}
-use Rattle.wgsl_core.specs.declared.error.Fail.{Fail}
 use Rattle.wgsl_calls.specs.Constructors.{IsVectorCandidate, IsMatrixCandidate, IsCandidateOf, IsLeastMade, IsLeastConstructorAnswer}
 use Rattle.wgsl_calls.proofs.AnswersAs.{answers}
 use Rattle.wgsl_calls.proofs.ChosenAmong.{none_made}

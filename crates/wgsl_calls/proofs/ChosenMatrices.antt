@@ -1,19 +1,7 @@
 -- What constructors of matrices without a template make of value types is the result of the least candidate.
 use Rattle.std.proofs.Common.{◌≡◌, ℕ, ◌⊎◌, List, [], ◌∷◌, length, Option, Some, None, Result, Ok, Err, All, ok_or, refl, sym, ap, subst, inl, inr}
-use Rattle.wgsl_rules.specs.types.Types.{mat_of, WgslType, within, mat}
-use Rattle.wgsl_rules.specs.types.Kinds.{IsFloatScalar}
-use Rattle.wgsl_rules.specs.types.Inner.{inner_of}
-use Rattle.wgsl_rules.specs.conversion.Conversion.{IsValueType}
-use Rattle.wgsl_rules.specs.conversion.Common.{IsLeftCommon, of_one_type}
-use Rattle.wgsl_rules.proofs.conversion.Folds.{folded}
-use Rattle.wgsl_rules.specs.errors.Refusals.{Refusal, builtin}
-use Rattle.wgsl_rules.specs.operators.Choice.{Takes}
-use Rattle.wgsl_rules.specs.constructors.Steps.{Then, ThenCommon}
+use Rattle.wgsl_calls.proofs.Common.{mat_of, WgslType, within, mat, IsFloatScalar, inner_of, IsValueType, IsLeftCommon, of_one_type, folded, Refusal, builtin, Takes, Then, ThenCommon, above_values, value_above, receives_head, values_head, left_common_least, whole, fill_all, IsMatrixCandidate, matrix_copy, matrix_components, IsLeastMade}
 use Rattle.wgsl_rules.specs.constructors.Matrices.{component_of, incompatible_matrix, IsUntypedMatrixOf, IsUntypedMatrixOfOne, IsUntypedMatrix}
-use Rattle.wgsl_rules.proofs.conversion.Order.{above_values}
-use Rattle.wgsl_rules.proofs.conversion.Commons.{value_above, receives_head, values_head, left_common_least}
-use Rattle.wgsl_rules.proofs.operators.Families.{whole, fill_all}
-use Rattle.wgsl_calls.specs.Constructors.{IsMatrixCandidate, matrix_copy, matrix_components, IsLeastMade}
 use Rattle.wgsl_calls.proofs.ChosenAmong.{least_made, none_made, least_member, no_member, IsMember}
 use Rattle.wgsl_calls.proofs.ChosenArrays.{wholes, whole_put, taken_received, taken_by_none}
 use Rattle.wgsl_calls.proofs.ChosenVectors.{all_one}

@@ -1,20 +1,6 @@
 -- What constructors of scalars make of value types is the result of the least candidate.
 use Rattle.std.proofs.Common.{◌≡◌, List, [], ◌∷◌, Option, Some, None, Ok, Err, All, refl, sym, subst}
-use Rattle.std.proofs.lemmas.List.Elements.{All-nil, All-cons}
-use Rattle.wgsl_syntax.specs.declared.scalar.Scalar.{Scalar}
-use Rattle.wgsl_rules.specs.types.Types.{WgslType, scalar}
-use Rattle.wgsl_rules.specs.types.Kinds.{IsScalar}
-use Rattle.wgsl_rules.specs.types.Signatures.{Parameter}
-use Rattle.wgsl_rules.specs.conversion.Conversion.{IsValueType}
-use Rattle.wgsl_rules.specs.conversion.Common.{of_one_type}
-use Rattle.wgsl_rules.specs.errors.Refusals.{Refusal}
-use Rattle.wgsl_rules.specs.operators.Choice.{Takes}
-use Rattle.wgsl_rules.specs.constructors.Constructors.{scalar_call}
-use Rattle.wgsl_rules.proofs.conversion.Order.{value_converts}
-use Rattle.wgsl_rules.proofs.conversion.Commons.{values_head}
-use Rattle.wgsl_rules.proofs.operators.Families.{whole}
-use Rattle.wgsl_rules.proofs.operators.FamilyKinds.{any_scalar, above_admits, as_scalar}
-use Rattle.wgsl_calls.specs.Constructors.{IsScalarCandidate, scalar_zero, scalar_conversion, IsLeastMade}
+use Rattle.wgsl_calls.proofs.Common.{All-nil, All-cons, Scalar, WgslType, scalar, IsScalar, Parameter, IsValueType, of_one_type, Refusal, Takes, scalar_call, value_converts, values_head, whole, any_scalar, above_admits, as_scalar, IsScalarCandidate, scalar_zero, scalar_conversion, IsLeastMade}
 use Rattle.wgsl_calls.proofs.ChosenAmong.{least_made, none_made, least_member, only_one, IsMember}
 
 no_argument : (s : Scalar) → IsLeastMade (IsScalarCandidate s None) [] (Ok (scalar s))

@@ -1,23 +1,7 @@
 -- What constructors of matrices with a template make of value types is the result of the least candidate.
 use Rattle.std.proofs.Common.{◌≡◌, ℕ, ◌⊎◌, List, [], ◌∷◌, length, Option, Some, None, Result, Ok, Err, All, ok_or, option_map, refl, sym, ◌∙◌, ap, subst, inl, inr}
-use Rattle.wgsl_syntax.specs.declared.scalar.Scalar.{Scalar}
-use Rattle.wgsl_rules.specs.types.Types.{mat_of, WgslType, scalar, within, mat}
-use Rattle.wgsl_rules.specs.types.Kinds.{IsFloatScalar}
-use Rattle.wgsl_rules.specs.types.Inner.{inner_of}
-use Rattle.wgsl_rules.specs.types.Signatures.{Parameter, of_type}
-use Rattle.wgsl_rules.specs.conversion.Conversion.{IsValueType}
-use Rattle.wgsl_rules.specs.conversion.Converted.{IsConverted, IsConvertedInside}
-use Rattle.wgsl_rules.specs.conversion.Common.{IsLeftCommon, of_one_type}
-use Rattle.wgsl_rules.specs.errors.Refusals.{Refusal, conversion, builtin}
-use Rattle.wgsl_rules.specs.operators.Choice.{Takes}
-use Rattle.wgsl_rules.specs.templates.Templates.{IsTemplateOf, IsMatTemplate}
-use Rattle.wgsl_rules.specs.constructors.Steps.{Then, ThenCommon}
+use Rattle.wgsl_calls.proofs.Common.{Scalar, mat_of, WgslType, scalar, within, mat, IsFloatScalar, inner_of, Parameter, of_type, IsValueType, IsConverted, IsConvertedInside, IsLeftCommon, of_one_type, Refusal, conversion, builtin, Takes, IsTemplateOf, IsMatTemplate, Then, ThenCommon, Above, above_converts, above_inside, above_values, value_above, receives_head, values_head, left_common_least, left_common_none, mat_template_once, whole, fill_all, taken_above, above_outer}
 use Rattle.wgsl_rules.specs.constructors.Matrices.{incompatible_matrix, IsMatrixOf, IsTypedMatrixOf, IsTypedMatrixOfOne, IsTypedMatrix}
-use Rattle.wgsl_rules.proofs.conversion.Order.{Above, above_converts, above_inside, above_values}
-use Rattle.wgsl_rules.proofs.conversion.Commons.{value_above, receives_head, values_head, left_common_least, left_common_none}
-use Rattle.wgsl_rules.proofs.templates.OneAnswer.{mat_template_once}
-use Rattle.wgsl_rules.proofs.operators.Families.{whole, fill_all, taken_above}
-use Rattle.wgsl_rules.proofs.operators.FamilyKinds.{above_outer}
 use Rattle.wgsl_calls.specs.Constructors.{MakeColumns, IsMatrixCandidate, typed_matrix_zero, typed_matrix_conversion, typed_matrix_components, IsLeastMade}
 use Rattle.wgsl_calls.proofs.ChosenAmong.{least_made, none_made, least_member, only_one, IsMember}
 use Rattle.wgsl_calls.proofs.ChosenArrays.{wholes, taken_received, received_taken, taken_by_none}

@@ -1,21 +1,6 @@
 -- What constructors of vectors with a template make of value types is the result of the least candidate.
 use Rattle.std.proofs.Common.{◌≡◌, ℕ, ◌⊎◌, List, [], ◌∷◌, Some, Result, Ok, Err, All, map, refl, sym, ◌∙◌, ap, subst, inl, inr, arith}
-use Rattle.std.proofs.lemmas.List.Elements.{All-nil, All-cons, All-head, All-tail}
-use Rattle.wgsl_rules.specs.types.Types.{vec_of, WgslType, scalar, within, vec}
-use Rattle.wgsl_rules.specs.types.Kinds.{IsScalarOrVector}
-use Rattle.wgsl_rules.specs.types.Inner.{inner_of}
-use Rattle.wgsl_rules.specs.types.Signatures.{Parameter}
-use Rattle.wgsl_rules.specs.conversion.Conversion.{IsValueType, ConvertsTo}
-use Rattle.wgsl_rules.specs.conversion.Common.{of_one_type}
-use Rattle.wgsl_rules.specs.errors.Refusals.{Refusal}
-use Rattle.wgsl_rules.specs.Headline.{Receives}
-use Rattle.wgsl_rules.specs.operators.Choice.{HasRanks, Takes}
-use Rattle.wgsl_rules.specs.templates.Templates.{IsVecTemplate}
-use Rattle.wgsl_rules.specs.constructors.Vectors.{BringsComponents, IsTypedVectorOfOne, IsTypedVectorOfSeveral, IsTypedVector}
-use Rattle.wgsl_rules.proofs.conversion.Order.{above_to_within, value_converts}
-use Rattle.wgsl_rules.proofs.conversion.Commons.{receives_nil, receives_cons, receives_head, receives_tail, values_head}
-use Rattle.wgsl_rules.proofs.templates.OneAnswer.{vec_template_once}
-use Rattle.wgsl_rules.proofs.operators.Families.{inner, fill_all, taken_puts, puts_taken, put_once}
+use Rattle.wgsl_calls.proofs.Common.{All-nil, All-cons, All-head, All-tail, vec_of, WgslType, scalar, within, vec, IsScalarOrVector, inner_of, Parameter, IsValueType, ConvertsTo, of_one_type, Refusal, Receives, HasRanks, Takes, IsVecTemplate, BringsComponents, IsTypedVectorOfOne, IsTypedVectorOfSeveral, IsTypedVector, above_to_within, value_converts, receives_nil, receives_cons, receives_head, receives_tail, values_head, vec_template_once, inner, fill_all, taken_puts, puts_taken, put_once}
 use Rattle.wgsl_calls.specs.Constructors.{IsVectorCandidate, typed_vector_zero, typed_vector_conversion, typed_vector_components, IsLeastMade}
 use Rattle.wgsl_calls.proofs.ChosenAmong.{least_made, none_made, IsMember, least_member, only_one}
 use Rattle.wgsl_calls.proofs.ChosenVectors.{shapes, are_taken, shaped_put, inner_values, IsEnough, filled_makes, enough_taken, taken_none, all_one}

@@ -1,21 +1,8 @@
 -- What constructors of vectors make of value types is the result of the least candidate.
 use Rattle.std.proofs.Common.{◌≡◌, ◌≢◌, ℕ, ◌⊎◌, List, [], ◌∷◌, Option, Some, None, Result, Ok, Err, All, codes, map, ok_or, refl, sym, ◌∙◌, ap, subst, inl, inr, arith}
-use Rattle.std.proofs.lemmas.List.Elements.{All-nil, All-cons, All-head, All-tail}
-use Rattle.wgsl_syntax.specs.declared.scalar.Scalar.{Scalar}
-use Rattle.wgsl_syntax.specs.declared.scalar.Scalar.TheVariants.{AbstractInt}
-use Rattle.wgsl_rules.specs.types.Types.{vec_of, WgslType, scalar, within, vec}
-use Rattle.wgsl_rules.specs.types.Kinds.{IsScalarOrVector}
-use Rattle.wgsl_rules.specs.types.Inner.{inner_of}
-use Rattle.wgsl_rules.specs.conversion.Conversion.{IsValueType, ConvertsTo}
-use Rattle.wgsl_rules.specs.conversion.Common.{IsLeftCommon, of_one_type}
-use Rattle.wgsl_rules.specs.errors.Refusals.{Refusal, builtin}
-use Rattle.wgsl_rules.specs.Headline.{Receives}
-use Rattle.wgsl_rules.specs.operators.Choice.{HasRanks, Takes}
+use Rattle.wgsl_calls.proofs.Common.{All-nil, All-cons, All-head, All-tail, Scalar, AbstractInt, vec_of, WgslType, scalar, within, vec, IsScalarOrVector, inner_of, IsValueType, ConvertsTo, IsLeftCommon, of_one_type, Refusal, builtin, Receives, HasRanks, Takes, Then, Above, value_converts, Slot, whole, inner, fill, fill_all, IsPut, HasOpen}
 use Rattle.wgsl_rules.specs.constructors.Vectors.{components, all_components, no_components as no_components_refusal, IsUntypedVectorOfOne, IsUntypedVectorOfSeveral, IsUntypedVector}
-use Rattle.wgsl_rules.specs.constructors.Steps.{Then}
-use Rattle.wgsl_rules.proofs.conversion.Order.{Above, value_converts}
 use Rattle.wgsl_rules.proofs.conversion.Commons.{value_above, receives_head, receives_tail, values_head, values_tail, left_common_least}
-use Rattle.wgsl_rules.proofs.operators.Families.{Slot, whole, inner, fill, fill_all, IsPut, HasOpen}
 use Rattle.wgsl_rules.proofs.operators.FamilyKinds.{any_scalar, scalar_or_vector, above_admits, above_admitted, Outer, plain, layer, outer, outers, above_outer, ranked_outers, as_scalar}
 use Rattle.wgsl_calls.specs.Constructors.{HasComponents, MakeComponents, IsVectorCandidate, vector_zero, vector_components, IsLeastMade}
 use Rattle.wgsl_calls.proofs.ChosenAmong.{least_made, none_made, IsMember, least_member, no_member, only_one}

@@ -1,33 +1,15 @@
 -- The answer of a constructor from the answers of the functions that it calls, for one argument and for several.
-use Rattle.std.proofs.Common.{string_bytes, ◌≡◌, ◌≢◌, ℕ, ◌<◌, ◌≤◌, List, [], ◌∷◌, length, map, Option, Some, None, Result, Ok, Err, Bool, IsTrue, ◌↔◌, refl, sym, ap, subst, ◌∙◌, inl, inr}
-use native.Mathlib.Omega.{arith}
-use Rattle.std.proofs.lemmas.List.{length-map}
+use Rattle.std.proofs.Common.{string_bytes, ◌≡◌, ◌≢◌, ℕ, ◌<◌, ◌≤◌, List, [], ◌∷◌, length, map, Option, Some, None, Result, Ok, Err, Bool, IsTrue, ◌↔◌, refl, sym, ap, subst, ◌∙◌, inl, inr, arith, Bor}
+use Rattle.wgsl_calls.proofs.Common.{length-map, Scalar, IsMatrix, ConvertsTo, IsConvertedInside, IsLeftCommon, of_no_types, of_one_type, Refusal, builtin, conversion, param_count, param_type, Signature, view, struct_view, members_view, view-struct, StructType, out-StructType, AnswersAs, «Type», Error, Fail, AllConverted}
 use Rattle.wgsl_rules.specs.types.Types.{Layer, array_of, vec_of, mat_of, WgslType, scalar, within, array, vec, mat, Members, struct, atomic, pointer, reference, texture, sampler, binding_array, ray_query, acceleration_structure}
-use Rattle.wgsl_syntax.specs.declared.scalar.Scalar.{Scalar}
-use Rattle.wgsl_rules.specs.types.Kinds.{IsMatrix}
-use Rattle.wgsl_rules.specs.conversion.Conversion.{ConvertsTo}
-use Rattle.wgsl_rules.specs.conversion.Converted.{IsConvertedInside}
-use Rattle.wgsl_rules.specs.conversion.Common.{IsLeftCommon, of_no_types, of_one_type}
-use Rattle.wgsl_rules.specs.errors.Refusals.{Refusal, builtin, conversion, param_count, param_type}
 use Rattle.wgsl_rules.specs.constructors.Vectors.{IsTypedVectorOfOne, IsTypedVectorOfSeveral, IsTypedVector, IsUntypedVectorOfSeveral, IsUntypedVector}
 use Rattle.wgsl_rules.specs.constructors.Matrices.{incompatible_matrix, IsMatrixOf, IsTypedMatrixOf, IsTypedMatrixOfOne, IsTypedMatrix, IsUntypedMatrixOf, IsUntypedMatrixOfOne, IsUntypedMatrix}
-use Rattle.wgsl_rules.specs.types.Signatures.{Signature}
 use Rattle.wgsl_rules.specs.constructors.Constructors.{Constructor, constructor_of, IsBuilt, IsConstructorAnswer, IsTypedArray, IsFilled, IsStructCall, member_count, AllFit, IsFirstMisfit}
-use Rattle.wgsl_core.specs.View.{view, struct_view}
-use Rattle.wgsl_core.specs.internal.View.{members_view}
-use Rattle.wgsl_core.proofs.Recognition.{view-struct}
-use Rattle.wgsl_core.specs.declared.ty.StructType.{StructType, out-StructType}
 use Rattle.wgsl_calls.proofs.Arguments.{count_of_members, misfit_is_no_fit}
-use Rattle.std.specs.Borrow.{Bor}
 use Rattle.wgsl_core.specs.Forms.{form_view, layer_of}
 use Rattle.wgsl_core.specs.declared.ty.form.Form.{Form}
 use Rattle.wgsl_core.specs.declared.ty.form.Form.TheVariants as forms
-use Rattle.wgsl_core.specs.Answer.{AnswersAs}
-use Rattle.wgsl_core.specs.declared.ty.Type.{«Type»}
-use Rattle.wgsl_core.specs.declared.error.Error.{Error}
-use Rattle.wgsl_core.specs.declared.error.Fail.{Fail}
 use Rattle.wgsl_core.specs.declared.error.Fail.TheVariants as fails
-use Rattle.wgsl_calls.specs.internal.Constructors.{AllConverted}
 
 -- arrays: the elements are checked
 pub of_elements : (args : List «Type») (n : Option ℕ) (k : ℕ) (t e : WgslType) → 1 ≤ length args → n ≡ Some k → e ≡ t → (r : Result (Unit {0}) (Fail Error)) →
@@ -73,16 +55,6 @@ columns_untyped name c n u (a ∷ b ∷ args) le l r h =
 pub no_columns : (name : List ℕ) (c n : ℕ) (args : List «Type») → length args < 1 → IsUntypedMatrix name c n (map view args) (Err (builtin incompatible_matrix))
 no_columns name c n [] lt = (None, of_no_types, refl)
 no_columns name c n (a ∷ args) lt = absurd (omega arith)
-
-pub several_members : (name : List ℕ) (ms : Members) (args : List «Type») (r : Result (Unit {0}) Refusal) → 1 ≤ length args →
-    IsFilled name ms (map view args) r → IsStructCall name ms (map view args) r
-several_members name ms [] r le h = absurd (omega arith)
-several_members name ms (a ∷ args) r le h = h
-
-pub of_several_members : (name : List ℕ) (ms : Members) (args : List «Type») (r : Result (Unit {0}) Refusal) → 1 ≤ length args →
-    IsStructCall name ms (map view args) r → IsFilled name ms (map view args) r
-of_several_members name ms [] r le h = absurd (omega arith)
-of_several_members name ms (a ∷ args) r le h = h
 
 -- a single argument that isn't a matrix is the common type of the arguments
 pub one_typed : (name : List ℕ) (c n : ℕ) (t a : WgslType) → ¬ IsMatrix a → (r : Result WgslType Refusal) →

@@ -1,10 +1,6 @@
 -- Shapes and arguments, side by side.
 use Rattle.std.proofs.Common.{◌≡◌, List, [], ◌∷◌, length, map, Bool, true, Option, Some, None, is_some, option_map, refl, sym, ◌∙◌, arith, ◌↔◌, IsTrue}
-use Rattle.std.proofs.lemmas.List.{length-map}
-use Rattle.wgsl_rules.specs.types.Types.{WgslType}
-use Rattle.wgsl_rules.specs.calls.Rows.{AllAre, BeginAs}
-use Rattle.wgsl_core.specs.View.{view}
-use Rattle.wgsl_core.specs.declared.ty.Type.{«Type»}
+use Rattle.wgsl_calls.proofs.Common.{length-map, WgslType, AllAre, BeginAs, view, «Type»}
 use Rattle.wgsl_syntax.specs.declared.call.Shape.{Shape}
 
 begins_whole : (ss : List Shape) (ts : List WgslType) → length ts ≡ length ss → BeginAs ss ts → AllAre ss ts

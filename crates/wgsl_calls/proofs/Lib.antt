@@ -1,3 +1,4 @@
+pub mod Common
 pub mod AnswersAs
 pub mod Arguments
 pub mod Constructed

@@ -1,19 +1,7 @@
 -- The arguments of a matrix: one scalar per component or one vector per column, or one matrix.
 use Rattle.std.proofs.Common.{◌≡◌, ℕ, ◌*◌, ◌⊎◌, List, [], ◌∷◌, length, Result, Ok, Err, refl, sym, ◌∙◌, ap, subst, inl, inr}
-use Rattle.wgsl_syntax.specs.declared.scalar.Scalar.{Scalar}
-use Rattle.wgsl_syntax.specs.declared.scalar.Scalar.TheVariants.{AbstractInt}
-use Rattle.wgsl_rules.specs.types.Types.{vec_of, mat_of, WgslType, scalar, within, vec, mat}
-use Rattle.wgsl_rules.specs.types.Kinds.{IsFloatScalar}
-use Rattle.wgsl_rules.specs.types.Inner.{inner_of}
-use Rattle.wgsl_rules.specs.conversion.Conversion.{IsValueType}
-use Rattle.wgsl_rules.specs.errors.Refusals.{Refusal}
-use Rattle.wgsl_rules.specs.operators.Choice.{Takes}
-use Rattle.wgsl_rules.specs.constructors.Matrices.{component_of, IsMatrixOf}
-use Rattle.wgsl_rules.proofs.conversion.Order.{Above, above_to_within, above_from_within, value_converts}
-use Rattle.wgsl_rules.proofs.conversion.Commons.{value_above, receives_head}
-use Rattle.wgsl_rules.proofs.operators.Families.{fill_all}
+use Rattle.wgsl_calls.proofs.Common.{Scalar, AbstractInt, vec_of, mat_of, WgslType, scalar, within, vec, mat, IsFloatScalar, inner_of, IsValueType, Refusal, Takes, component_of, IsMatrixOf, Above, above_to_within, above_from_within, value_converts, value_above, receives_head, fill_all, AreAll, MakeColumns}
 use Rattle.wgsl_rules.proofs.operators.FamilyKinds.{a_float, any_scalar, Admits, above_admits, above_admitted, outer, float_above, int_above, as_scalar}
-use Rattle.wgsl_calls.specs.Constructors.{AreAll, MakeColumns}
 use Rattle.wgsl_calls.proofs.ChosenArrays.{wholes, taken_all, filled_all, filled_length, taken_received}
 
 -- The number of arguments of type u that make c columns of r components: one per component, or one per column.

@@ -1,22 +1,11 @@
 -- A call by its name: its answer, that this is the least candidate's, and when it is never out of memory.
 use Rattle.std.proofs.Common.{◌≡◌, List, Option, Some, None, Result, Ok, Err, subst, option_map}
-use Rattle.wgsl_rules.specs.types.Types.{WgslType}
-use Rattle.wgsl_rules.specs.types.Signatures.{Parameter, Signature}
-use Rattle.wgsl_rules.specs.errors.Refusals.{Refusal, signature}
-use Rattle.wgsl_syntax.specs.declared.call.Row.{Row}
-use Rattle.wgsl_syntax.specs.declared.call.ReturnType.{ReturnType}
-use Rattle.wgsl_rules.specs.calls.Rows.{IsReturnType}
+use Rattle.wgsl_calls.proofs.Common.{WgslType, Parameter, Signature, Refusal, signature, Row, ReturnType, IsReturnType, view, refusal, AnswersAs, IsAnswered, «Type», Error, Fail, Chooses, MayBeOutOfMemory, IsMet, Answered}
 use Rattle.wgsl_rules.specs.calls.Table.{call_table, rows_named}
 use Rattle.wgsl_rules.specs.calls.Answers.{IsAnswerOf, IsCallAnswer, IsLeastCallAnswer, IsLeafAnswer, IsLeafCall}
 use Rattle.wgsl_rules.proofs.calls.OneAnswer.{call_answer_once}
 use Rattle.wgsl_rules.proofs.calls.ChosenCalls.{call_is_least}
-use Rattle.wgsl_core.specs.View.{view}
-use Rattle.wgsl_core.specs.Answer.{refusal, AnswersAs, IsAnswered}
-use Rattle.wgsl_core.specs.declared.ty.Type.{«Type»}
-use Rattle.wgsl_core.specs.declared.error.Error.{Error}
-use Rattle.wgsl_core.specs.declared.error.Fail.{Fail}
 use Rattle.wgsl_core.specs.declared.error.Fail.TheVariants as fails
-use Rattle.wgsl_calls.specs.internal.Answers.{Chooses, MayBeOutOfMemory, IsMet, Answered}
 use Rattle.wgsl_calls.proofs.OutOfMemory.{by_answer, by_other}
 
 pub by_name : (c : Signature) (rows : List Row) (p : Option (List Parameter)) (r : Result (Option «Type») (Fail Error)) → rows ≡ rows_named c.name call_table → Answered (IsAnswerOf rows c) p r →

@@ -1,28 +1,12 @@
 -- When out of memory may stand for an answer.
-use Rattle.std.specs.Prelude.{IsErrAnd}
 use Rattle.std.specs.declared.alloc.AllocError.{AllocError}
-use Rattle.std.proofs.Common.{◌≡◌, List, [], ◌∷◌, Option, Some, None, Result, Ok, Err, inl, inr, refl, sym, subst, Bool, true, false, cond}
-use Rattle.wgsl_syntax.specs.declared.scalar.Scalar.{Scalar}
-use Rattle.wgsl_syntax.specs.declared.scalar.Scalar.TheVariants.{F32}
-use Rattle.wgsl_rules.specs.types.Types.{Layer, array_of, vec_of, mat_of, WgslType, scalar, within}
-use Rattle.wgsl_rules.specs.types.Kinds.{IsLeaf}
+use Rattle.std.proofs.Common.{◌≡◌, List, [], ◌∷◌, Option, Some, None, Result, Ok, Err, inl, inr, refl, sym, subst, Bool, true, false, cond, IsErrAnd}
+use Rattle.wgsl_calls.proofs.Common.{Scalar, F32, Layer, array_of, vec_of, mat_of, WgslType, scalar, within, IsLeaf, result_struct, exchange_struct, ray_intersection_struct, Parameter, Signature, Refusal, signature, Row, ReturnType, Fits, return_type_of, IsFromTemplate, given, «Type», Error, Fail, IsScalarMade, Answered, Chooses, IsBuilt as IsBuiltType, IsMet, MayBeOutOfMemory}
 use Rattle.wgsl_syntax.specs.declared.result_struct.ResultStruct.{ResultStruct}
-use Rattle.wgsl_rules.specs.types.ResultStructs.{result_struct}
-use Rattle.wgsl_rules.specs.calls.ResultTypes.{exchange_struct, ray_intersection_struct}
 use Rattle.wgsl_core.specs.ResultStruct.{result_type}
 use Rattle.wgsl_rules.specs.conversion.Concrete.{is_abstract, concretized}
-use Rattle.wgsl_rules.specs.types.Signatures.{Parameter, Signature}
-use Rattle.wgsl_rules.specs.errors.Refusals.{Refusal, signature}
-use Rattle.wgsl_syntax.specs.declared.call.Row.{Row}
-use Rattle.wgsl_syntax.specs.declared.call.ReturnType.{ReturnType}
-use Rattle.wgsl_rules.specs.calls.Rows.{Fits, return_type_of, IsFromTemplate, given}
 use Rattle.wgsl_rules.specs.constructors.Constructors.{IsBuilt, IsConstructorAnswer, constructor_of, makes_scalar, scalar_call}
-use Rattle.wgsl_core.specs.declared.ty.Type.{«Type»}
-use Rattle.wgsl_core.specs.declared.error.Error.{Error}
-use Rattle.wgsl_core.specs.declared.error.Fail.{Fail}
 use Rattle.wgsl_core.specs.declared.error.Fail.TheVariants as fails
-use Rattle.wgsl_calls.specs.Constructors.{IsScalarMade}
-use Rattle.wgsl_calls.specs.internal.Answers.{Answered, Chooses, IsBuilt as IsBuiltType, IsMet, MayBeOutOfMemory}
 
 abbrev Answer : Type 0
 Answer = Result (Option WgslType) Refusal
@@ -51,10 +35,6 @@ pub by_other : (P Q : Answer → Type 0) (p : Option (List Parameter)) (r : Resu
 by_other P Q p (Ok t) f k = f _ k
 by_other P Q p (Err (fails.Error x)) f k = f _ k
 by_other P Q p (Err (fails.Memory m)) f k = λ n. let j = k n in (j.0, f j.0 j.1, j.2)
-
--- the answer is that of the first row that takes the call
-pub first_row : (row : Row) (rows : List Row) (c : Signature) → Fits row c → Chooses (row ∷ rows) c (Some (return_type_of row))
-first_row row rows c f = λ a o. inl (f, o)
 
 pub later_row : (row : Row) (rows : List Row) (c : Signature) (o : Option ReturnType) → ¬ Fits row c → Chooses rows c o → Chooses (row ∷ rows) c o
 later_row row rows c None f k = inr (f, k)

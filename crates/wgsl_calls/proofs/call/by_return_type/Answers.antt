@@ -1,11 +1,5 @@
 use Rattle.std.proofs.Common.{rules, Err, Ok, Some, Option, Result}
-use Rattle.wgsl_rules.specs.errors.Refusals.{Refusal, signature}
-use Rattle.wgsl_rules.specs.types.Types.{WgslType}
-use Rattle.wgsl_rules.specs.types.Signatures.{Signature}
-use Rattle.wgsl_rules.specs.calls.ResultTypes.{hit_positions_type, ray_intersection_struct}
-use Rattle.wgsl_rules.specs.calls.Rows.{IsReturnType}
-use Rattle.wgsl_calls.specs.Calls.{signature_of}
-use Rattle.wgsl_calls.specs.internal.Answers.{MayBeOutOfMemory}
+use Rattle.wgsl_calls.proofs.Common.{Refusal, signature, WgslType, Signature, hit_positions_type, ray_intersection_struct, IsReturnType, signature_of, MayBeOutOfMemory}
 use Rattle.wgsl_calls.proofs.OutOfMemory.{by_answer, by_memory, no_leaf_intersection, unbuilt}
 use Rattle.wgsl_calls.proofs.call.by_return_type.Goals.{in-Of, in-Concrete, in-AsLong, in-InVector, in-Transposed, in-TextureSize, in-ResultOf, in-ExchangeResult, in-RayIntersection, in-HitPositions}
 use Rattle.wgsl_calls.proofs.call.by_return_type.Goals as goal

@@ -1,6 +1,5 @@
 use Rattle.std.proofs.Common.{None, refl, subst}
-use Rattle.wgsl_calls.specs.Calls.{signature_of}
-use Rattle.wgsl_calls.specs.internal.Answers.{Chooses}
+use Rattle.wgsl_calls.proofs.Common.{signature_of, Chooses}
 use Rattle.wgsl_calls.proofs.call.chosen.Goals as goal
 
 pub returns-in-Some : goal.returns-in-Some

@@ -1,6 +1,5 @@
 use Rattle.std.proofs.Common.{rules, None, Some, sym, subst, inl, refl}
-use Rattle.wgsl_core.specs.View.{view}
-use Rattle.wgsl_calls.specs.internal.Constructors.{IsStuckAt}
+use Rattle.wgsl_calls.proofs.Common.{view, IsStuckAt}
 use Rattle.wgsl_calls.proofs.Arguments.{argument_at, no_argument_at, not_stuck}
 use Rattle.wgsl_calls.proofs.constructor.first_stuck.Goals as goal
 

@@ -1,7 +1,5 @@
 use Rattle.std.proofs.Common.{Option, drop, map}
-use Rattle.wgsl_rules.specs.types.Types.{WgslType}
-use Rattle.wgsl_core.specs.View.{view}
-use Rattle.wgsl_calls.specs.internal.Constructors.{IsStuckAt}
+use Rattle.wgsl_calls.proofs.Common.{WgslType, view, IsStuckAt}
 use Rattle.wgsl_calls.proofs.constructor.first_stuck.Given as goal
 
 abbrev pub invariant-loop-arg : goal.invariant-loop-arg

@@ -1,11 +1,7 @@
 use Rattle.std.proofs.Common.{◌≡◌, Some, None, Err, ap, sym, ◌∙◌, map, option_map}
-use Rattle.wgsl_rules.specs.errors.Refusals.{signature}
-use Rattle.wgsl_rules.specs.constructors.Vectors.{IsVectorCall}
-use Rattle.wgsl_rules.specs.constructors.Matrices.{IsMatrixCall}
+use Rattle.wgsl_calls.proofs.Common.{signature, IsVectorCall, IsMatrixCall, view, constructor_view}
 use Rattle.wgsl_rules.specs.constructors.Constructors.{makes_array, makes_scalar, makes_vector, makes_matrix, IsConstructorAnswer, IsArrayCall, scalar_call}
-use Rattle.wgsl_core.specs.View.{view}
 use Rattle.wgsl_core.specs.Instances.{parameter_view, call_view}
-use Rattle.wgsl_calls.specs.internal.Constructors.{constructor_view}
 use Rattle.wgsl_calls.proofs.AnswersAs.{answers}
 use Rattle.wgsl_calls.proofs.Constructed.{built}
 use Rattle.wgsl_calls.proofs.OutOfMemory.{scalar_made}

@@ -1,6 +1,5 @@
 use Rattle.std.proofs.Common.{length, map}
-use Rattle.wgsl_rules.specs.constructors.Matrices.{IsTypedMatrixOf, IsTypedMatrix}
-use Rattle.wgsl_core.specs.View.{view}
+use Rattle.wgsl_calls.proofs.Common.{IsTypedMatrixOf, IsTypedMatrix, view}
 use Rattle.wgsl_calls.proofs.AnswersAs.{answers}
 use Rattle.wgsl_calls.proofs.Constructed.{columns_typed}
 use Rattle.wgsl_calls.proofs.constructor.matrix.typed_matrix.Goals as goal

@@ -1,7 +1,5 @@
 use Rattle.std.proofs.Common.{Err, None, option_map, ap, sym, ◌∙◌}
-use Rattle.wgsl_rules.specs.constructors.Matrices.{IsMatrixOf, IsTypedMatrixOf}
-use Rattle.wgsl_rules.specs.errors.Refusals.{conversion}
-use Rattle.wgsl_core.specs.View.{view}
+use Rattle.wgsl_calls.proofs.Common.{IsMatrixOf, IsTypedMatrixOf, conversion, view}
 use Rattle.wgsl_calls.proofs.Arguments.{fails, holds}
 use Rattle.wgsl_calls.proofs.AnswersAs.{answers}
 use Rattle.wgsl_calls.proofs.Constructed.{not_inside, typed_element, typed_whole}

@@ -1,5 +1,4 @@
-use Rattle.wgsl_rules.specs.constructors.Matrices.{IsTypedMatrixOf, IsTypedMatrixOfOne}
-use Rattle.wgsl_core.specs.View.{view}
+use Rattle.wgsl_calls.proofs.Common.{IsTypedMatrixOf, IsTypedMatrixOfOne, view}
 use Rattle.wgsl_calls.proofs.AnswersAs.{answers}
 use Rattle.wgsl_calls.proofs.Constructed.{one_typed, no_matrix}
 use Rattle.wgsl_calls.proofs.constructor.matrix.typed_matrix_of_one.Goals as goal

@@ -1,6 +1,5 @@
 use Rattle.std.proofs.Common.{length, map}
-use Rattle.wgsl_rules.specs.constructors.Matrices.{IsUntypedMatrixOf, IsUntypedMatrix}
-use Rattle.wgsl_core.specs.View.{view}
+use Rattle.wgsl_calls.proofs.Common.{IsUntypedMatrixOf, IsUntypedMatrix, view}
 use Rattle.wgsl_calls.proofs.AnswersAs.{answers}
 use Rattle.wgsl_calls.proofs.Constructed.{columns_untyped, no_columns}
 use Rattle.wgsl_calls.proofs.constructor.matrix.untyped_matrix.Goals as goal

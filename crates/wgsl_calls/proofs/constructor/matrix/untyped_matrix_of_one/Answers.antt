@@ -1,5 +1,4 @@
-use Rattle.wgsl_rules.specs.constructors.Matrices.{IsUntypedMatrixOf, IsUntypedMatrixOfOne}
-use Rattle.wgsl_core.specs.View.{view}
+use Rattle.wgsl_calls.proofs.Common.{IsUntypedMatrixOf, IsUntypedMatrixOfOne, view}
 use Rattle.wgsl_calls.proofs.AnswersAs.{answers}
 use Rattle.wgsl_calls.proofs.Constructed.{one_untyped, no_matrix}
 use Rattle.wgsl_calls.proofs.constructor.matrix.untyped_matrix_of_one.Goals as goal

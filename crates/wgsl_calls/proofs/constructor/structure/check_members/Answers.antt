@@ -1,9 +1,5 @@
 use Rattle.std.proofs.Common.{◌≡◌, length, map, Some, None, sym, ap, ◌∙◌, subst, string_bytes}
-use Rattle.wgsl_rules.specs.errors.Refusals.{param_count}
-use Rattle.wgsl_core.specs.View.{view}
-use Rattle.wgsl_core.specs.internal.View.{members_view}
-use Rattle.wgsl_core.specs.declared.ty.StructType.{out-StructType}
-use Rattle.wgsl_calls.specs.internal.Constructors.{IsMisfitAt}
+use Rattle.wgsl_calls.proofs.Common.{param_count, view, members_view, out-StructType, IsMisfitAt}
 use Rattle.wgsl_calls.proofs.Constructed.{refused_number, not_filled_by_number, refused_member, not_filled_by_member, filled}
 use Rattle.wgsl_calls.proofs.constructor.structure.check_members.Goals as goal
 

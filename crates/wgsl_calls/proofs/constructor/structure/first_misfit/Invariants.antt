@@ -1,8 +1,5 @@
 use Rattle.std.proofs.Common.{◌≡◌, length, map, Option}
-use Rattle.wgsl_rules.specs.types.Types.{WgslType}
-use Rattle.wgsl_core.specs.View.{view}
-use Rattle.wgsl_core.specs.internal.View.{members_view}
-use Rattle.wgsl_calls.specs.internal.Constructors.{IsMisfitAt}
+use Rattle.wgsl_calls.proofs.Common.{WgslType, view, members_view, IsMisfitAt}
 use Rattle.wgsl_calls.proofs.constructor.structure.first_misfit.Given as goal
 
 abbrev pub invariant-loop-member : goal.invariant-loop-member

@@ -1,6 +1,5 @@
 use Rattle.std.proofs.Common.{All, drop, map}
-use Rattle.wgsl_rules.specs.constructors.Vectors.{BringsComponents}
-use Rattle.wgsl_core.specs.View.{view}
+use Rattle.wgsl_calls.proofs.Common.{BringsComponents, view}
 use Rattle.wgsl_calls.proofs.constructor.vector.all_bring_components.Given as goal
 
 abbrev pub invariant-loop-arg : goal.invariant-loop-arg

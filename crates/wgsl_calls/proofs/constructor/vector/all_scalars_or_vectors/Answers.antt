@@ -1,7 +1,5 @@
 use Rattle.std.proofs.Common.{rules, true≢false, All, sym, subst, ◌∙◌}
-use Rattle.std.proofs.lemmas.List.Elements.{All-cons}
-use Rattle.wgsl_rules.specs.types.Kinds.{IsScalarOrVector}
-use Rattle.wgsl_core.specs.View.{view}
+use Rattle.wgsl_calls.proofs.Common.{All-cons, IsScalarOrVector, view}
 use Rattle.wgsl_calls.proofs.Arguments.{argument_at, no_argument_at, of_argument}
 use Rattle.wgsl_calls.proofs.constructor.vector.all_scalars_or_vectors.Goals as goal
 

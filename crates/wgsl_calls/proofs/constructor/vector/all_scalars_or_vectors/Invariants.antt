@@ -1,6 +1,5 @@
 use Rattle.std.proofs.Common.{All, drop, map}
-use Rattle.wgsl_rules.specs.types.Kinds.{IsScalarOrVector}
-use Rattle.wgsl_core.specs.View.{view}
+use Rattle.wgsl_calls.proofs.Common.{IsScalarOrVector, view}
 use Rattle.wgsl_calls.proofs.constructor.vector.all_scalars_or_vectors.Given as goal
 
 abbrev pub invariant-loop-arg : goal.invariant-loop-arg

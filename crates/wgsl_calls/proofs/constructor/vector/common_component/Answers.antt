@@ -1,7 +1,5 @@
 use Rattle.std.proofs.Common.{Some, None, sym, subst}
-use Rattle.wgsl_rules.specs.conversion.Common.{IsCommon}
-use Rattle.wgsl_rules.proofs.conversion.Folds.{IsFoldedFrom, none_stays}
-use Rattle.wgsl_core.specs.View.{view}
+use Rattle.wgsl_calls.proofs.Common.{IsCommon, IsFoldedFrom, none_stays, view}
 use Rattle.wgsl_calls.proofs.Arguments.{all_inside, inside_at, left_common_at, none_inside}
 use Rattle.wgsl_calls.proofs.constructor.vector.common_component.Goals as goal
 

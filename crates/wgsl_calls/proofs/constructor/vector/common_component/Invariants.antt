@@ -1,9 +1,5 @@
 use Rattle.std.proofs.Common.{Option, Some, map}
-use Rattle.wgsl_rules.specs.types.Types.{WgslType}
-use Rattle.wgsl_rules.specs.types.Inner.{inner_of}
-use Rattle.wgsl_rules.specs.conversion.Common.{IsLeftCommon}
-use Rattle.wgsl_rules.proofs.conversion.Folds.{IsFoldedFrom}
-use Rattle.wgsl_core.specs.View.{view}
+use Rattle.wgsl_calls.proofs.Common.{WgslType, inner_of, IsLeftCommon, IsFoldedFrom, view}
 use Rattle.wgsl_calls.proofs.Arguments.{inside_from}
 use Rattle.wgsl_calls.proofs.constructor.vector.common_component.Given as goal
 

@@ -1,6 +1,5 @@
 use Rattle.std.proofs.Common.{◌≡◌, ◌+◌, drop, map}
-use Rattle.wgsl_rules.specs.constructors.Vectors.{all_components}
-use Rattle.wgsl_core.specs.View.{view}
+use Rattle.wgsl_calls.proofs.Common.{all_components, view}
 use Rattle.wgsl_calls.proofs.constructor.vector.component_count_is.Given as goal
 
 -- the components of all arguments plus the count wanted are the components of the rest plus `n`

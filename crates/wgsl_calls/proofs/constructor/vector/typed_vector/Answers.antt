@@ -1,7 +1,5 @@
 use Rattle.std.proofs.Common.{Ok, Err, ap, sym, ◌∙◌, inl, inr}
-use Rattle.std.proofs.lemmas.List.{length-map}
-use Rattle.wgsl_rules.specs.errors.Refusals.{param_count}
-use Rattle.wgsl_core.specs.View.{view}
+use Rattle.wgsl_calls.proofs.Common.{length-map, param_count, view}
 use Rattle.wgsl_calls.proofs.Arguments.{holds, fails}
 use Rattle.wgsl_calls.proofs.Constructed.{several_typed}
 use Rattle.wgsl_calls.proofs.constructor.vector.typed_vector.Goals as goal
