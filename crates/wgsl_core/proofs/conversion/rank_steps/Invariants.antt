@@ -1,6 +1,5 @@
 use Rattle.std.proofs.Common.{ℕ, Option}
-use Rattle.wgsl_core.specs.View.{view}
-use Rattle.wgsl_core.specs.internal.Forms.{layers}
+use Rattle.wgsl_core.proofs.Common.{view, layers}
 use Rattle.wgsl_core.proofs.Ranks.{IsRank, Steps}
 use Rattle.wgsl_core.proofs.conversion.rank_steps.Given as goal
 
