@@ -1,6 +1,6 @@
 -- Bits of a 32-bit integer stay in it.
-use Rattle.std.proofs.Common.{◌≡◌, ℕ, suc, ◌+◌, ◌-◌, ◌*◌, ◌/◌, ◌%◌, ◌<◌, ◌≤◌, ◌^◌, refl, sym, arith}
-use Rattle.std.proofs.lemmas.Nat.{mod-pow-add, pow-add, pow_pos, shl_below, shr_split}
+use Rattle.std.proofs.Common.{◌≡◌, ℕ, suc, ◌+◌, ◌-◌, ◌*◌, ◌/◌, ◌%◌, ◌<◌, ◌≤◌, ◌^◌, refl, sym, arith, pow-add, pow_pos}
+use Rattle.std.proofs.lemmas.Nat.{mod-pow-add, shl_below, shr_split}
 use Rattle.std.proofs.Math.Nat.{div-mul-le_self, lt_of_mul-lt-mul_right, mod-lt, mul-le-mul_right}
 use Rattle.std.proofs.Math.Pow.{pow_mono}
 

@@ -1,7 +1,5 @@
 -- An operator has the value that the function says.
-use Rattle.std.proofs.Common.{◌≡◌, ◌⊎◌, inl, inr, ℕ, ◌*◌, ◌<◌, ◌≤◌, ◌^◌, ℤ, pos, negsuc, ◌*ℤ◌, neg_ℤ, Bool, true, false, cond, Option, Some, None, Result, Ok, Err, FitsSigned, w32, w64, refl, sym, ap, ◌∙◌, arith}
-use Rattle.std.proofs.lemmas.Bool.{ltb-true, eqb-true, lt-ltb, eq-eqb}
-use Rattle.std.specs.Prelude.{nat_lt, nat_eq, unsigned_abs}
+use Rattle.std.proofs.Common.{◌≡◌, ◌⊎◌, inl, inr, ℕ, ◌*◌, ◌<◌, ◌≤◌, ◌^◌, ℤ, pos, negsuc, ◌*ℤ◌, neg_ℤ, Bool, true, false, cond, Option, Some, None, Result, Ok, Err, FitsSigned, w32, w64, refl, sym, ap, ◌∙◌, arith, ltb-true, eqb-true, lt-ltb, eq-eqb, nat_lt, nat_eq, unsigned_abs}
 use Rattle.std.specs.Int.{FitsUnsignedBits}
 use Rattle.wgsl_constants.specs.declared.integer.Integer.{Integer}
 use Rattle.wgsl_constants.specs.declared.integer.Integer.TheVariants.{Abstract, I32, U32}
@@ -29,10 +27,6 @@ fits64 (negsuc n) = (λ e. record { sfits = ltb-true _ _ e }, λ h. lt-ltb _ _ h
 fits32 : (z : ℤ) → Tests (fits 31 z) (FitsSigned w32 z)
 fits32 (pos n) = (λ e. record { sfits = ltb-true _ _ e }, λ h. lt-ltb _ _ h.sfits)
 fits32 (negsuc n) = (λ e. record { sfits = ltb-true _ _ e }, λ h. lt-ltb _ _ h.sfits)
-
-unsigned32 : (z : ℤ) → Tests (fits_unsigned 32 z) (FitsUnsignedBits 32 z)
-unsigned32 (pos n) = (λ e. ltb-true _ _ e, λ h. lt-ltb _ _ h)
-unsigned32 (negsuc n) = (λ e. cc, λ h. absurd h)
 
 less : (n m : ℕ) → Tests (nat_lt n m) (n < m)
 less n m = (λ e. ltb-true _ _ e, λ h. lt-ltb _ _ h)

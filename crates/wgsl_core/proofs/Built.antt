@@ -1,16 +1,8 @@
 -- The structs that are built for a call.
 use Rattle.std.proofs.Common.{◌≡◌, ℕ, List, [], ◌∷◌, ◌++◌, Result, Ok, Err, IfOk, codes, sym, ap, ap₂, ◌∙◌, append_assoc, rules}
 use Rattle.std.specs.declared.alloc.AllocError.{AllocError}
-use Rattle.wgsl_syntax.specs.declared.scalar.Scalar.TheVariants.{Bool, U32, F32}
-use Rattle.wgsl_syntax.specs.declared.result_struct.ResultFunction.TheVariants.{Frexp, Modf}
-use Rattle.wgsl_syntax.specs.declared.result_struct.ResultStruct.{ResultStruct}
-use Rattle.wgsl_syntax.specs.ResultStruct.{result_name, function_text, shape_text, precision_text}
-use Rattle.wgsl_rules.specs.types.Types.{WgslType, scalar, struct, no_members, vec, mat}
-use Rattle.wgsl_rules.specs.types.ResultStructs.{shaped, float_of, exponent_of, plain_member, result_members, result_struct}
+use Rattle.wgsl_core.proofs.Common.{Bool, U32, F32, Frexp, Modf, ResultStruct, result_name, function_text, shape_text, precision_text, WgslType, scalar, struct, no_members, vec, mat, shaped, float_of, exponent_of, plain_member, result_members, result_struct, Member, view, members_of, plain, result_type, «Type», the_lemmas}
 use Rattle.wgsl_rules.specs.calls.ResultTypes.{exchange_struct, ray_intersection_struct}
-use Rattle.wgsl_core.specs.View.{Member, view, members_of}
-use Rattle.wgsl_core.specs.ResultStruct.{plain, result_type}
-use Rattle.wgsl_core.specs.declared.ty.Type.{«Type», the_lemmas}
 use Rattle.wgsl_core.specs.declared.ty.Type.TheVariants as v
 
 pub same_view : (r : Result «Type» AllocError) (t u : WgslType) → t ≡ u → IfOk r (λ x. view x ≡ t) → IfOk r (λ x. view x ≡ u)

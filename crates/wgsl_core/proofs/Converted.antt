@@ -1,10 +1,7 @@
 -- The conversion of a type, by cases.
 use Rattle.std.proofs.Common.{◌≡◌, Some, None, option_map, refl, ap, subst}
-use Rattle.wgsl_rules.specs.types.Types.{Layer, WgslType, within}
-use Rattle.wgsl_rules.specs.conversion.Conversion.{ConvertsTo}
+use Rattle.wgsl_core.proofs.Common.{Layer, WgslType, within, ConvertsTo, layer_of, converted, inner_converted}
 use Rattle.wgsl_rules.proofs.conversion.Converted.{what_converted, what_converted_inside, converted_once, converted_inside_once}
-use Rattle.wgsl_core.specs.Forms.{layer_of}
-use Rattle.wgsl_core.specs.Converted.{converted, inner_converted}
 
 pub converted_some : (t u : WgslType) → ConvertsTo t u → converted t u ≡ Some u
 unfolding converted

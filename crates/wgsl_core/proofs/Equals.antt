@@ -1,9 +1,6 @@
 -- Equality of types, part by part.
 use Rattle.std.proofs.Common.{◌≡◌, ◌↔◌, ℕ, suc, List, [], ◌∷◌, length, map, IsTrue, false, refl, sym, ap, ◌∙◌}
-use Rattle.std.proofs.lemmas.List.{length-map}
-use Rattle.wgsl_rules.specs.types.Types.{Members, no_members, member}
-use Rattle.wgsl_core.specs.internal.View.{members_view}
-use Rattle.wgsl_core.specs.declared.ty.StructMemberType.{StructMemberType}
+use Rattle.wgsl_core.proofs.Common.{length-map, Members, no_members, member, members_view, StructMemberType}
 
 pub never : {P : Type 0} → (P → ⊥) → IsTrue false ↔ P
 never refuted = (λ h. absurd (cc h), λ p. absurd (refuted p))

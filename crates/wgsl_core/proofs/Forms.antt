@@ -1,7 +1,6 @@
 -- A type with none of the forms of a kind is not of that kind.
 use Rattle.std.proofs.Common.{◌≡◌, ℕ, List, refl}
-use Rattle.wgsl_rules.specs.types.Types.{WgslType, struct, atomic, Members, vec}
-use Rattle.wgsl_rules.specs.types.Kinds.{IsVector, IsStruct, IsAtomic}
+use Rattle.wgsl_core.proofs.Common.{WgslType, struct, atomic, Members, vec, IsVector, IsStruct, IsAtomic}
 
 pub no_vector_form : (t : WgslType) → ((n : ℕ) (u : WgslType) → t ≡ vec n u → ⊥) → IsVector t → ⊥
 no_vector_form (vec n u) h i = h n u refl

@@ -1,34 +1,20 @@
 -- The measure of each kind of type, from those of the types inside; the layout of a struct, member by member.
-use Rattle.std.proofs.Common.{◌≡◌, ◌↔◌, ℕ, ◌<◌, ◌≤◌, suc, max, List, [], ◌∷◌, length, drop, drop-cons, add-one, ◌+◌, get_or, Option, Some, None, Result, Ok, Err, IsSome, ◌++◌, ◌^◌, refl, sym, ap, subst, ◌∙◌, rules, string_bytes}
-use Rattle.std.specs.Result.{OkIff, result_ok}
+use Rattle.std.proofs.Common.{◌≡◌, ◌↔◌, ℕ, ◌<◌, ◌≤◌, suc, max, List, [], ◌∷◌, length, drop, drop-cons, add-one, ◌+◌, get_or, Option, Some, None, Result, Ok, Err, IsSome, ◌++◌, ◌^◌, refl, sym, ap, subst, ◌∙◌, rules, string_bytes, OkIff, Bor}
+use Rattle.std.specs.Result.{result_ok}
 use Rattle.std.specs.declared.num.TryFromIntError.{TryFromIntError}
-use Rattle.std.specs.Borrow.{Bor}
 use Rattle.std.specs.Int.{next_multiple_of}
-use Rattle.std.proofs.lemmas.List.{drop_all, map_push}
+use Rattle.wgsl_core.proofs.Common.{drop_all, map_push, RuleSet, Scalar, WgslType, scalar, struct, Members, no_members, member, array, vec, mat, times, stride, array_size, vector_align, lacks_size, least_is_size, Member, member_view, struct_view, members_view, IsSoonestEnd, IsSoonestOffset, IsValue, IsMeasure, HasSomeSize, ArePlaced, form_view, Form, «Type», the_lemmas, StructType, out-StructType, StructMemberType}
 use Rattle.std.proofs.lemmas.Option.{same_Some}
-use Rattle.wgsl_syntax.specs.declared.rules.RuleSet.{RuleSet}
 use Rattle.wgsl_syntax.specs.declared.rules.RuleSet.TheVariants.{Ported}
-use Rattle.wgsl_syntax.specs.declared.scalar.Scalar.{Scalar}
 use Rattle.wgsl_syntax.specs.declared.scalar.Scalar.TheVariants as scalars
-use Rattle.wgsl_rules.specs.types.Types.{WgslType, scalar, struct, Members, no_members, member, array, vec, mat}
 use Rattle.wgsl_rules.specs.layout.Layout.{IsTimes, IsStride, IsArraySize, IsVectorAlignBy, IsGiven, HasSize, HasSizeBy, HasAlignment, HasAlignmentBy, HasLeastSize, IsExactly, IsStructLayoutBy}
-use Rattle.wgsl_rules.proofs.layout.Steps.{times, stride, array_size, vector_align, lacks_size, least_is_size}
 use Rattle.wgsl_rules.proofs.layout.StructSizes.{SizeSoFar, size_starts, size_stops, size_goes_on, size_ends, struct_size, struct_lacks}
 use Rattle.wgsl_rules.proofs.layout.StructAligns.{AlignSoFar, align_starts, align_stops, align_goes_on, align_ends, struct_align, sized_is_aligned}
 use Rattle.wgsl_rules.proofs.layout.Offsets.{PlacedSoFar, none_placed, NextMember, next_member, all_placed}
-use Rattle.wgsl_core.specs.View.{Member, member_view, struct_view}
-use Rattle.wgsl_core.specs.internal.View.{members_view}
 use Rattle.wgsl_core.specs.Layout.{layouts_of, offsets_of}
-use Rattle.wgsl_core.specs.Placing.{IsSoonestEnd, IsSoonestOffset, IsValue}
-use Rattle.wgsl_core.specs.internal.Layout.{IsMeasure, HasSomeSize, ArePlaced}
 use Rattle.wgsl_core.specs.declared.layout.Measure.{Measure}
 use Rattle.wgsl_core.specs.declared.layout.PlacedMember.{PlacedMember}
-use Rattle.wgsl_core.specs.Forms.{form_view}
-use Rattle.wgsl_core.specs.declared.ty.form.Form.{Form}
 use Rattle.wgsl_core.specs.declared.ty.form.Form.TheVariants as forms
-use Rattle.wgsl_core.specs.declared.ty.Type.{«Type», the_lemmas}
-use Rattle.wgsl_core.specs.declared.ty.StructType.{StructType, out-StructType}
-use Rattle.wgsl_core.specs.declared.ty.StructMemberType.{StructMemberType}
 
 abbrev pub scalar_size : Scalar → Option ℕ
 scalar_size scalars.AbstractInt = None

@@ -1,6 +1,5 @@
 -- Lists of texts.
-use Rattle.std.proofs.Common.{◌≡◌, ℕ, List, [], ◌∷◌, ◌++◌, Option, Some, None, map, codes, flat_map, refl, ap}
-use Rattle.std.proofs.lemmas.List.{append-nil, append_assoc}
+use Rattle.std.proofs.Common.{◌≡◌, ℕ, List, [], ◌∷◌, ◌++◌, Option, Some, None, map, codes, flat_map, refl, ap, append-nil, append_assoc}
 use Rattle.wgsl_rules.specs.types.Signatures.{listed, Parameter, parameter_text, template_text}
 
 rest_seen : {A B : Type 0} (text : B → List ℕ) (seen : A → B) (xs : List A) → flat_map (λ x. codes ", " ++ text (seen x)) xs ≡ flat_map (λ y. codes ", " ++ text y) (map seen xs)

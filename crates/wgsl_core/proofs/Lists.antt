@@ -1,11 +1,6 @@
 -- Common types of the types that an iterator gave.
-use Rattle.std.proofs.Common.{List, [], ◌∷◌, ◌++◌, ◌≡◌, map, Option, Some, refl, sym, ap, subst}
-use Rattle.std.specs.Borrow.{Bor}
-use Rattle.wgsl_rules.specs.types.Types.{WgslType}
-use Rattle.wgsl_rules.specs.conversion.Common.{IsCommon}
-use Rattle.wgsl_rules.proofs.conversion.Folds.{IsFoldedFrom, fold_more}
-use Rattle.wgsl_core.specs.View.{view}
-use Rattle.wgsl_core.specs.declared.ty.Type.{«Type»}
+use Rattle.std.proofs.Common.{List, [], ◌∷◌, ◌++◌, ◌≡◌, map, Option, Some, refl, sym, ap, subst, Bor}
+use Rattle.wgsl_core.proofs.Common.{WgslType, IsCommon, IsFoldedFrom, fold_more, view, «Type»}
 
 abbrev pub seen : List (Bor «Type») → List WgslType
 seen = map (λ t. view t.now)

@@ -1,30 +1,8 @@
 -- Conversion of the types of code.
-use Rattle.std.proofs.Common.{◌≡◌, ◌≢◌, ◌↔◌, ◌<◌, ℕ, arith, is_some, Bool, List, Option, Some, None, IsTrue, IfSome, refl, sym, ap, ◌∙◌, subst}
-use Rattle.wgsl_syntax.specs.declared.address.AddressSpace.{AddressSpace}
-use Rattle.wgsl_syntax.specs.declared.address.AccessMode.{AccessMode}
-use Rattle.wgsl_syntax.specs.declared.result_struct.ResultFunction.{ResultFunction}
-use Rattle.wgsl_syntax.specs.declared.result_struct.ResultShape.{ResultShape}
-use Rattle.wgsl_syntax.specs.declared.result_struct.ResultPrecision.{ResultPrecision}
-use Rattle.wgsl_syntax.specs.declared.result_struct.ResultStruct.{ResultStruct}
-use Rattle.wgsl_rules.specs.types.Types.{WgslType, struct, within, reference, Members}
-use Rattle.wgsl_rules.specs.types.ResultStructs.{result_struct}
-use Rattle.wgsl_rules.specs.conversion.Conversion.{Converts, ConvertsIn, ConvertsTo, Load, load}
-use Rattle.wgsl_rules.specs.internal.Nodes.{Node, at_scalar, at_result, type_at}
-use Rattle.wgsl_rules.proofs.conversion.Walks.{type_at_once, HaveEqualLayers, converts_nodes, load_bare}
-use Rattle.wgsl_rules.proofs.conversion.Order.{load_readable}
-use Rattle.wgsl_syntax.specs.Address.{MayRead}
-use Rattle.wgsl_rules.proofs.conversion.Equations.{converts_same, same_rank, load_converts, load_rank, converts_within}
+use Rattle.std.proofs.Common.{◌≡◌, ◌≢◌, ◌↔◌, ◌<◌, ℕ, arith, is_some, Bool, List, Option, Some, None, IsTrue, IfSome, refl, sym, ap, ◌∙◌, subst, Bor}
+use Rattle.wgsl_core.proofs.Common.{AddressSpace, AccessMode, ResultFunction, ResultShape, ResultPrecision, ResultStruct, WgslType, struct, within, reference, Members, result_struct, Converts, ConvertsIn, ConvertsTo, Load, load, Node, at_scalar, at_result, type_at, type_at_once, HaveEqualLayers, converts_nodes, load_bare, load_readable, MayRead, converts_same, same_rank, load_converts, load_rank, converts_within, struct_view, Scalar, form_view, layer_of, layers, HaveElements, «Type», Form, struct_type, result_type, StructType}
 use Rattle.wgsl_rules.proofs.conversion.Counts.{converts_in_same, converts_in_load, converts_in_within}
-use Rattle.wgsl_core.specs.View.{struct_view}
-use Rattle.std.specs.Borrow.{Bor}
-use Rattle.wgsl_syntax.specs.declared.scalar.Scalar.{Scalar}
-use Rattle.wgsl_core.specs.Forms.{form_view, layer_of}
-use Rattle.wgsl_core.specs.internal.Forms.{layers, HaveElements}
-use Rattle.wgsl_core.specs.declared.ty.Type.{«Type»}
-use Rattle.wgsl_core.specs.declared.ty.form.Form.{Form}
 use Rattle.wgsl_core.specs.declared.ty.form.Form.TheVariants as forms
-use Rattle.wgsl_core.specs.ResultStruct.{struct_type, result_type}
-use Rattle.wgsl_core.specs.declared.ty.StructType.{StructType}
 
 -- The node of a type
 

@@ -1,25 +1,9 @@
 -- Structs of two members, recognised as those that `frexp` and `modf` return.
 use Rattle.std.proofs.Common.{◌≡◌, ◌↔◌, ℕ, suc, List, [], ◌∷◌, length, get_or, Option, Some, None, refl, sym, ap, ◌∙◌, subst, append_assoc, arith, codes, string_bytes, rules}
-use Rattle.wgsl_syntax.specs.declared.result_struct.ResultFunction.{ResultFunction}
-use Rattle.wgsl_syntax.specs.declared.result_struct.ResultFunction.TheVariants.{Frexp, Modf}
-use Rattle.wgsl_syntax.specs.declared.result_struct.ResultShape.{ResultShape}
+use Rattle.wgsl_core.proofs.Common.{ResultFunction, Frexp, Modf, ResultShape, ResultPrecision, ResultStruct, result_name, function_text, shape_text, precision_text, WgslType, scalar, struct, vec, Members, no_members, member, shaped, float_of, result_struct, result_members, Node, at_scalar, at_result, type_at_once, Member, view, struct_view, member_view, members_view, scalar_of, struct_type, result_type, plain, the_lemmas, StructType, out-StructType, StructMemberType, out-StructMemberType}
 use Rattle.wgsl_syntax.specs.declared.result_struct.ResultShape.TheVariants as shape
-use Rattle.wgsl_syntax.specs.declared.result_struct.ResultPrecision.{ResultPrecision}
 use Rattle.wgsl_syntax.specs.declared.result_struct.ResultPrecision.TheVariants as precision
-use Rattle.wgsl_syntax.specs.declared.result_struct.ResultStruct.{ResultStruct}
-use Rattle.wgsl_syntax.specs.ResultStruct.{result_name, function_text, shape_text, precision_text}
-use Rattle.wgsl_rules.specs.types.Types.{WgslType, scalar, struct, vec, Members, no_members, member}
-use Rattle.wgsl_rules.specs.types.ResultStructs.{shaped, float_of, result_struct, result_members}
-use Rattle.wgsl_rules.specs.internal.Nodes.{Node, at_scalar, at_result}
-use Rattle.wgsl_rules.proofs.conversion.Walks.{type_at_once}
-use Rattle.wgsl_core.specs.View.{Member, view, struct_view, member_view}
-use Rattle.wgsl_core.specs.internal.View.{members_view}
-use Rattle.wgsl_core.specs.Forms.{scalar_of}
-use Rattle.wgsl_core.specs.ResultStruct.{struct_type, result_type, plain}
 use Rattle.wgsl_core.specs.internal.ResultStruct.{second_member, IsResult, shape_in, function_at}
-use Rattle.wgsl_core.specs.declared.ty.Type.{the_lemmas}
-use Rattle.wgsl_core.specs.declared.ty.StructType.{StructType, out-StructType}
-use Rattle.wgsl_core.specs.declared.ty.StructMemberType.{StructMemberType, out-StructMemberType}
 
 -- Structs of two members
 
@@ -90,11 +74,6 @@ shape_told shape.Vec4 precision.F16 = refl
 function_told : (f : ResultFunction) (s : ResultShape) (p : ResultPrecision) → function_at (second_member f s p).name ≡ Some f
 function_told Frexp s p = refl
 function_told Modf s p = refl
-
-pub no_shape : (t : WgslType) → scalar_of t ≡ None → ((n : ℕ) (u : WgslType) → t ≡ vec n u → ⊥) → None ≡ shape_in t
-no_shape (scalar s) e h = absurd (cc e)
-no_shape (vec n u) e h = absurd (h n u refl)
-no_shape t e h = refl
 
 abbrev function_in : Node → ResultFunction
 function_in (at_result f s p) = f

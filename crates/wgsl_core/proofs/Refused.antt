@@ -1,22 +1,10 @@
 -- Only the errors of one variant stand for its refusal.
-use Rattle.std.proofs.Common.{◌≡◌, ℕ, List, Bor, Global, refl}
-use Rattle.std.specs.Prelude.{String}
-use Rattle.wgsl_syntax.specs.declared.operator.BinaryOperator.{BinaryOperator}
+use Rattle.std.proofs.Common.{◌≡◌, ℕ, List, Bor, Global, refl, String}
+use Rattle.wgsl_core.proofs.Common.{BinaryOperator, WgslType, Literal, Signature, refusal, «Type», LiteralInstance, Error}
 use Rattle.wgsl_syntax.specs.declared.operator.UnaryOperator.{UnaryOperator}
-use Rattle.wgsl_rules.specs.types.Types.{WgslType}
-use Rattle.wgsl_rules.specs.types.Literals.{Literal}
-use Rattle.wgsl_rules.specs.types.Signatures.{Signature}
 use Rattle.wgsl_rules.specs.errors.Refusals.{todo, not_scalar, not_constructible, sampled_type, unknown_type, unexpected_template, missing_template, write_ref_type, conversion, conv_overflow, component, not_indexable, out_of_bounds, unary, binary, compwise_binary, shl_overflow, shr_overflow, signature, builtin, template_args, param_count, param_type}
-use Rattle.wgsl_core.specs.Answer.{refusal}
-use Rattle.wgsl_core.specs.declared.ty.Type.{«Type»}
-use Rattle.wgsl_core.specs.declared.literal.LiteralInstance.{LiteralInstance}
 use Rattle.wgsl_core.specs.declared.signature.CallSignature.{CallSignature}
-use Rattle.wgsl_core.specs.declared.error.Error.{Error}
 use Rattle.wgsl_core.specs.declared.error.Error.TheVariants as errors
-
-pub not_todo : (e : Error) → ((a : String Global) → e ≡ errors.Todo a → ⊥) → (x : List ℕ) → refusal e ≡ todo x → ⊥
-not_todo (errors.Todo a) h _ k = h a refl
-not_todo e h x k = cc k
 
 pub not_not_scalar : (e : Error) → ((a : «Type») → e ≡ errors.NotScalar a → ⊥) → (x : WgslType) → refusal e ≡ not_scalar x → ⊥
 not_not_scalar (errors.NotScalar a) h _ k = h a refl

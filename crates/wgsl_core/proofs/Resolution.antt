@@ -1,26 +1,14 @@
 -- The candidate found for the operands of a binary operator is that of a row.
-use Rattle.std.proofs.Common.{◌≡◌, ℕ, ◌⊎◌, [], ◌∷◌, Ok, Err, Option, Some, None, option_map, refl, sym, ap, ◌∙◌, subst, subst₂, inl, inr}
-use Rattle.wgsl_syntax.specs.declared.scalar.Scalar.{Scalar}
-use Rattle.wgsl_syntax.specs.declared.scalar.Scalar.TheVariants.{Bool, U32}
-use Rattle.wgsl_syntax.specs.declared.operator.BinaryOperator.{BinaryOperator}
+use Rattle.std.proofs.Common.{◌≡◌, ℕ, ◌⊎◌, [], ◌∷◌, Ok, Err, Option, Some, None, option_map, refl, sym, ap, ◌∙◌, subst, subst₂, inl, inr, Bor}
+use Rattle.wgsl_core.proofs.Common.{Scalar, Bool, U32, BinaryOperator, mat_of, WgslType, scalar, within, vec, mat, IsScalar, IsVector, IsInteger, IsIntegerScalar, IsIntegerOrVector, ConvertsTo, IsCommon, Refusal, binary, BinaryCandidate, HasCandidate, IsChosenResult, IsChosenCandidate, «Type», form_view, Form}
 use Rattle.wgsl_syntax.specs.declared.operator.BinaryOperator.TheVariants.{Multiplication}
 use Rattle.wgsl_syntax.specs.declared.overload.Dimensions.{Dimensions}
 use Rattle.wgsl_syntax.specs.declared.overload.Dimensions.TheVariants.{Single, Vector, Matrix}
-use Rattle.wgsl_rules.specs.types.Types.{mat_of, WgslType, scalar, within, vec, mat}
-use Rattle.wgsl_rules.specs.types.Kinds.{IsScalar, IsVector, IsInteger, IsIntegerScalar, IsIntegerOrVector}
-use Rattle.wgsl_rules.specs.conversion.Conversion.{ConvertsTo}
-use Rattle.wgsl_rules.specs.conversion.Common.{IsCommon}
 use Rattle.wgsl_rules.specs.operators.Candidates.{operator, IsArithmetic, IsSum, IsComparison, IsLogical, IsBitwise, IsOrAnd, IsShift}
 use Rattle.wgsl_rules.specs.operators.Rows.{scalar_row, vector_row, scalar_vector_row, vector_scalar_row, matrix_row, scalar_matrix_row, matrix_scalar_row, vector_matrix_row, matrix_vector_row, matrix_matrix_row, comparison_row, comparison_vector_row, logical_row, bools_row, bit_row, shift_row, shift_vector_row}
 use Rattle.wgsl_rules.specs.Headline.{IsChosenAnswer}
-use Rattle.wgsl_rules.specs.errors.Refusals.{Refusal, binary}
-use Rattle.wgsl_rules.specs.operators.Answers.{BinaryCandidate, HasCandidate, IsChosenResult, IsChosenCandidate}
 use Rattle.wgsl_rules.proofs.operators.Groups.{Fits, IsShifted}
 use Rattle.wgsl_rules.proofs.operators.Rows.{unfit, elements_apart, not_compared, not_shifted, chosen, result_chosen, nothing_chosen}
-use Rattle.std.specs.Borrow.{Bor}
-use Rattle.wgsl_core.specs.declared.ty.Type.{«Type»}
-use Rattle.wgsl_core.specs.Forms.{form_view}
-use Rattle.wgsl_core.specs.declared.ty.form.Form.{Form}
 use Rattle.wgsl_core.specs.declared.ty.form.Form.TheVariants as forms
 use Rattle.wgsl_core.specs.internal.Resolution.{in_layers, IsInLayers, compared_at, shifted_at}
 

@@ -1,7 +1,6 @@
 -- The derived `==` of literals and enumerants is true exactly for equal ones.
-use Rattle.std.proofs.Common.{◌≡◌, Bool, true, refl, sym, ap, subst, true≢false}
+use Rattle.std.proofs.Common.{◌≡◌, Bool, true, refl, sym, ap, subst, true≢false, Decides}
 use Rattle.std.proofs.lemmas.Bool.Decides.{Decides-eqb, Decides-int_eq}
-use Rattle.std.specs.Bool.{Decides}
 use Rattle.std.specs.Cmp.{booleans_Decides}
 use denote.Enum.Bare.{same_true, true_same}
 use Rattle.wgsl_syntax.specs.contracts.address.AccessMode.{the_type as access_type}
@@ -11,10 +10,8 @@ use Rattle.wgsl_syntax.specs.contracts.enumerant.EnumerantPartialEq.TheImpl.{gho
 use Rattle.wgsl_syntax.specs.declared.attribute.AccelerationStructureFlags.TheVariants.{VertexReturn}
 use Rattle.wgsl_syntax.specs.declared.enumerant.Enumerant.{Enumerant}
 use Rattle.wgsl_syntax.specs.declared.enumerant.Enumerant.TheVariants.{AccessMode, AddressSpace, TexelFormat, AccelerationStructureFlags}
-use Rattle.wgsl_rules.specs.types.Literals.{Literal, bool, abstract_int, i32, u32, i64, u64}
-use Rattle.wgsl_core.specs.Instances.{literal_view}
+use Rattle.wgsl_core.proofs.Common.{Literal, bool, abstract_int, i32, u32, i64, u64, literal_view, LiteralInstance}
 use Rattle.wgsl_core.specs.contracts.literal.LiteralInstancePartialEq.TheImpl.{ghosts as instances}
-use Rattle.wgsl_core.specs.declared.literal.LiteralInstance.{LiteralInstance}
 use Rattle.wgsl_core.specs.declared.literal.LiteralInstance.TheVariants as literals
 
 one : (a b : Enumerant) → enumerants.eq a b ≡ true → a ≡ b

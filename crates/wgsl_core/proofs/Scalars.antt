@@ -1,8 +1,6 @@
 -- The scalar of a type.
 use Rattle.std.proofs.Common.{◌≡◌, ◌↔◌, Some, ap}
-use Rattle.wgsl_syntax.specs.declared.scalar.Scalar.{Scalar}
-use Rattle.wgsl_rules.specs.types.Types.{WgslType, scalar}
-use Rattle.wgsl_core.specs.Forms.{scalar_of}
+use Rattle.wgsl_core.proofs.Common.{Scalar, WgslType, scalar, scalar_of}
 
 pub scalar_is : (t : WgslType) (s : Scalar) → (scalar_of t ≡ Some s) ↔ (t ≡ scalar s)
 scalar_is t s = (to t, λ e. ap scalar_of e)

@@ -1,18 +1,12 @@
 -- The common type of the types in a slice.
-use Rattle.std.proofs.Common.{◌≡◌, ◌≢◌, ◌⊎◌, List, [], ◌∷◌, ◌++◌, length, take, drop, map, Option, Some, None, IsSome, option_map, refl, sym, ap, ◌∙◌, subst, inl, inr}
-use Rattle.std.proofs.lemmas.List.{map-append, take-append-drop}
+use Rattle.std.proofs.Common.{◌≡◌, ◌≢◌, ◌⊎◌, List, [], ◌∷◌, ◌++◌, length, take, drop, map, Option, Some, None, IsSome, option_map, refl, sym, ap, ◌∙◌, subst, inl, inr, take-append-drop, Bor}
+use Rattle.wgsl_core.proofs.Common.{map-append, DrainsIf, WgslType, IsCommonOfList, IsCommonOfGiven, view, «Type»}
 use Rattle.std.proofs.lemmas.Iterator.{YieldsList, YieldsList-from_slice, items_from_drains}
 use Rattle.std.proofs.lemmas.Iterator.Consumers.{YieldsList-so_far}
 use Rattle.std.proofs.iter.Yields.{fronts}
-use Rattle.std.specs.Borrow.{Bor}
-use Rattle.std.specs.Iterator.{DrainsIf}
 use Rattle.std.specs.Slice.Iter.{iter_rest}
 use Rattle.std.specs.declared.slice.Iter.{Iter}
-use Rattle.wgsl_rules.specs.types.Types.{WgslType}
-use Rattle.wgsl_rules.specs.conversion.Lists.{IsCommonOfList, IsCommonOfGiven}
-use Rattle.wgsl_core.specs.View.{view}
 use Rattle.wgsl_core.proofs.Lists.{seen}
-use Rattle.wgsl_core.specs.declared.ty.Type.{«Type»}
 
 abbrev now_of : List (Bor «Type») → List «Type»
 now_of = map (λ y. y.now)

@@ -1,19 +1,8 @@
 -- The answers of the unary operators in code.
 use Rattle.std.proofs.Common.{◌≡◌, ◌≢◌, ◌↔◌, Bool, true, false, IsTrue, IsFalse, Result, Ok, Err, IfOk, Box, Global, refl, sym, ap, ◌∙◌, subst, subst₂}
-use Rattle.wgsl_syntax.specs.declared.address.AccessMode.{AccessMode}
-use Rattle.wgsl_syntax.specs.declared.address.AddressSpace.{AddressSpace}
+use Rattle.wgsl_core.proofs.Common.{AccessMode, AddressSpace, AddressOf, Indirection, WgslType, pointer, reference, Refusal, IsUnaryAnswer, IsUnaryRow, address_row, indirection_row, one_reference, view, AnswersBy, «Type», Error}
 use Rattle.wgsl_syntax.specs.declared.address.AddressSpace.TheVariants.{Handle}
-use Rattle.wgsl_syntax.specs.declared.operator.UnaryOperator.TheVariants.{AddressOf, Indirection}
-use Rattle.wgsl_rules.specs.types.Types.{WgslType, pointer, reference}
-use Rattle.wgsl_rules.specs.errors.Refusals.{Refusal}
-use Rattle.wgsl_rules.specs.operators.Answers.{IsUnaryAnswer}
-use Rattle.wgsl_rules.specs.operators.UnaryRows.{IsUnaryRow, address_row, indirection_row}
-use Rattle.wgsl_rules.proofs.operators.Unary.{one_reference}
-use Rattle.wgsl_core.specs.View.{view}
-use Rattle.wgsl_core.specs.Answer.{AnswersBy}
-use Rattle.wgsl_core.specs.declared.ty.Type.{«Type»}
 use Rattle.wgsl_core.specs.declared.ty.Type.TheVariants as v
-use Rattle.wgsl_core.specs.declared.error.Error.{Error}
 use Rattle.wgsl_core.specs.declared.error.Fail.{Fail}
 use Rattle.wgsl_core.specs.declared.error.Fail.TheVariants as fails
 use Rattle.wgsl_core.proofs.Views.{view-Ptr, view-Ref}

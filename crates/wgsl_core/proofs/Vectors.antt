@@ -1,18 +1,7 @@
 -- Conversion to a vector of a scalar.
-use Rattle.std.proofs.Common.{◌≡◌, ◌↔◌, ℕ, Bool, true, false, IsTrue, Some, None, inl, inr, refl, sym, ap, subst, ◌∙◌}
-use Rattle.wgsl_syntax.specs.declared.address.AddressSpace.{AddressSpace}
-use Rattle.wgsl_syntax.specs.declared.address.AccessMode.{AccessMode}
-use Rattle.wgsl_syntax.specs.Address.{MayRead}
-use Rattle.wgsl_rules.specs.types.Types.{Layer, vec_of, WgslType, within, reference, vec}
-use Rattle.wgsl_rules.specs.conversion.Conversion.{Load, load, Converts, ConvertsTo}
-use Rattle.wgsl_rules.proofs.conversion.Order.{along_above, above_to_within, load_readable}
-use Rattle.wgsl_rules.proofs.conversion.Equations.{converts_within}
-use Rattle.wgsl_core.specs.Forms.{layer_of}
-use Rattle.wgsl_core.specs.declared.ty.Type.{«Type»}
+use Rattle.std.proofs.Common.{◌≡◌, ◌↔◌, ℕ, Bool, true, false, IsTrue, Some, None, inl, inr, refl, sym, ap, subst, ◌∙◌, Bor}
+use Rattle.wgsl_core.proofs.Common.{AddressSpace, AccessMode, MayRead, Layer, vec_of, WgslType, within, reference, vec, Load, load, Converts, ConvertsTo, along_above, above_to_within, load_readable, converts_within, layer_of, «Type», form_view, Form}
 use Rattle.wgsl_core.proofs.Ranks.{no_elements, no_reference_loads}
-use Rattle.std.specs.Borrow.{Bor}
-use Rattle.wgsl_core.specs.Forms.{form_view}
-use Rattle.wgsl_core.specs.declared.ty.form.Form.{Form}
 use Rattle.wgsl_core.specs.declared.ty.form.Form.TheVariants as forms
 
 layered : (t : WgslType) (l : Layer) (e : WgslType) → layer_of t ≡ Some (l, e) → t ≡ within l e

@@ -1,21 +1,13 @@
 -- How the rules see each variant of a type, and that they see no other variant so.
 use Rattle.std.proofs.Common.{◌≡◌, ℕ, List, Option, Box, Global, sym, ap, subst, ◌∙◌, rules, string_bytes}
-use Rattle.wgsl_syntax.specs.declared.address.AccessMode.{AccessMode}
-use Rattle.wgsl_syntax.specs.declared.address.AddressSpace.{AddressSpace}
+use Rattle.wgsl_core.proofs.Common.{AccessMode, AddressSpace, IsStruct, IsArray, IsVector, IsMatrix, IsAtomic, IsPointer, Member, Struct, view, type_step, member_step, struct_step, members_view, «Type», the_lemmas, out-Type, roll-Type, roll-out-Type, fold-roll-Type, StructType, out-StructType, StructMemberType}
 use Rattle.wgsl_syntax.specs.declared.attribute.AccelerationStructureFlags.{AccelerationStructureFlags}
 use Rattle.wgsl_syntax.specs.declared.texture.SamplerType.{SamplerType}
 use Rattle.wgsl_syntax.specs.declared.texture.TextureType.{TextureType}
 use Rattle.wgsl_rules.specs.types.Types.{WgslType, struct, atomic, pointer, reference, texture, sampler, binding_array, ray_query, acceleration_structure, Members, array, vec, mat}
-use Rattle.wgsl_rules.specs.types.Kinds.{IsStruct, IsArray, IsVector, IsMatrix, IsAtomic}
 use Rattle.wgsl_rules.specs.conversion.Loading.{IsReference}
-use Rattle.wgsl_rules.proofs.operators.Unary.{IsPointer}
-use Rattle.wgsl_core.specs.View.{Member, Struct, view, type_step, member_step, struct_step}
-use Rattle.wgsl_core.specs.internal.View.{members_view}
-use Rattle.wgsl_core.specs.declared.ty.Type.{«Type», the_lemmas, out-Type, roll-Type, roll-out-Type, fold-roll-Type}
 use Rattle.wgsl_core.specs.declared.ty.Type.TheOpen.{Type-F}
 use Rattle.wgsl_core.specs.declared.ty.Type.TheVariants as v
-use Rattle.wgsl_core.specs.declared.ty.StructType.{StructType, out-StructType}
-use Rattle.wgsl_core.specs.declared.ty.StructMemberType.{StructMemberType}
 
 abbrev Level : Type 0
 Level = Type-F «Type» StructMemberType StructType

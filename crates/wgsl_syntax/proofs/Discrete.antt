@@ -6,22 +6,14 @@ use Rattle.wgsl_syntax.specs.contracts.scalar.Scalar.{the_type as scalar_type}
 use Rattle.wgsl_syntax.specs.contracts.address.AddressSpace.{the_type as space_type}
 use Rattle.wgsl_syntax.specs.contracts.address.AccessMode.{the_type as access_type}
 use Rattle.wgsl_syntax.specs.contracts.attribute.AccelerationStructureFlags.{the_type as flag_type}
-use Rattle.wgsl_syntax.specs.contracts.texture.SampledType.{the_type as sampled_type}
 use Rattle.wgsl_syntax.specs.contracts.texture.SamplerType.{the_type as sampler_type}
 use Rattle.wgsl_syntax.specs.contracts.texel.TexelFormat.{the_type as texel_type}
-use Rattle.wgsl_syntax.specs.contracts.result_struct.ResultFunction.{the_type as function_type}
-use Rattle.wgsl_syntax.specs.contracts.result_struct.ResultShape.{the_type as shape_type}
-use Rattle.wgsl_syntax.specs.contracts.result_struct.ResultPrecision.{the_type as precision_type}
 use Rattle.wgsl_syntax.specs.declared.scalar.Scalar.{Scalar}
 use Rattle.wgsl_syntax.specs.declared.address.AddressSpace.{AddressSpace}
 use Rattle.wgsl_syntax.specs.declared.address.AccessMode.{AccessMode}
 use Rattle.wgsl_syntax.specs.declared.attribute.AccelerationStructureFlags.{AccelerationStructureFlags}
-use Rattle.wgsl_syntax.specs.declared.texture.SampledType.{SampledType}
 use Rattle.wgsl_syntax.specs.declared.texture.SamplerType.{SamplerType}
 use Rattle.wgsl_syntax.specs.declared.texel.TexelFormat.{TexelFormat}
-use Rattle.wgsl_syntax.specs.declared.result_struct.ResultFunction.{ResultFunction}
-use Rattle.wgsl_syntax.specs.declared.result_struct.ResultShape.{ResultShape}
-use Rattle.wgsl_syntax.specs.declared.result_struct.ResultPrecision.{ResultPrecision}
 use Rattle.wgsl_syntax.specs.contracts.texture.TextureTypePartialEq.TheImpl.{ghosts}
 use Rattle.wgsl_syntax.specs.declared.texture.TextureType.{TextureType}
 use Rattle.wgsl_syntax.proofs.Same.{texture_same}
@@ -46,23 +38,11 @@ same_access = bare access_type tt
 pub same_flag : (a b : AccelerationStructureFlags) → Dec (a ≡ b)
 same_flag = bare flag_type tt
 
-pub same_sampled : (a b : SampledType) → Dec (a ≡ b)
-same_sampled = bare sampled_type tt
-
 pub same_sampler : (a b : SamplerType) → Dec (a ≡ b)
 same_sampler = bare sampler_type tt
 
 pub same_texel : (a b : TexelFormat) → Dec (a ≡ b)
 same_texel = bare texel_type tt
-
-pub same_function : (a b : ResultFunction) → Dec (a ≡ b)
-same_function = bare function_type tt
-
-pub same_shape : (a b : ResultShape) → Dec (a ≡ b)
-same_shape = bare shape_type tt
-
-pub same_precision : (a b : ResultPrecision) → Dec (a ≡ b)
-same_precision = bare precision_type tt
 
 pub same_texture : (a b : TextureType) → Dec (a ≡ b)
 same_texture a b =

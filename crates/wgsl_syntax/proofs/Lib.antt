@@ -2,4 +2,3 @@ pub mod Discrete
 pub mod Naming
 pub mod Renamed
 pub mod Same
-pub mod Textures

@@ -1,8 +1,8 @@
 -- Enumerations of which WGSL calls one value otherwise than naga: texel formats and address spaces.
 use Rattle.std.proofs.Common.{◌≡◌, ◌≢◌, ◌⊎◌, inl, inr, ℕ, List, MatchOption, Option, Some, None, codes, refl, sym, ap, ◌∙◌}
 use Rattle.wgsl_syntax.specs.Names.{named, table}
-use Rattle.wgsl_syntax.specs.Address.{IsSpace, space_text, space_text_by, spaces}
-use Rattle.wgsl_syntax.specs.Texel.{IsTexel, texel_formats, texel_text, texel_text_by}
+use Rattle.wgsl_syntax.specs.Address.{space_text, space_text_by, spaces}
+use Rattle.wgsl_syntax.specs.Texel.{texel_formats, texel_text, texel_text_by}
 use Rattle.wgsl_syntax.specs.declared.address.AddressSpace.{AddressSpace}
 use Rattle.wgsl_syntax.specs.declared.address.AddressSpace.TheVariants as spaces_of
 use Rattle.wgsl_syntax.specs.declared.rules.RuleSet.{RuleSet}
@@ -25,22 +25,6 @@ means : {A : Type 0} {text by : A → List ℕ} {values : List A} {other : List 
     → (word : List ℕ) (x : A) → (word ≡ by x) ⊎ (word ≡ text x) → Means text other value word x
 means r word x (inl is) = elim (r.names x) [ inl same ↦ inl (is ∙ same) | inr named ↦ inr (is ∙ named.0, named.1) ]
 means r word x (inr is) = inl is
-
-not_naga : {A : Type 0} {text by : A → List ℕ} {values : List A} {other : List ℕ} {value : A} → Renaming text by values other value
-    → (word : List ℕ) (x : A) → word ≡ other → word ≢ text x
-not_naga {text = text} {values = values} r word x wgsl is =
-    let no : None ≡ Some x = sym r.unknown ∙ ap (named (table text values)) (sym wgsl ∙ is) ∙ r.back x in cc no
-
--- a word names one value
-one_named : {A : Type 0} {text by : A → List ℕ} {values : List A} {other : List ℕ} {value : A} → Renaming text by values other value
-    → (word : List ℕ) (x y : A) → (word ≡ by x) ⊎ (word ≡ text x) → (word ≡ by y) ⊎ (word ≡ text y) → x ≡ y
-one_named {text = text} {values = values} {other = other} {value = value} r word x y a b = same (means r word x a) (means r word y b)
-  where
-    same : Means text other value word x → Means text other value word y → x ≡ y
-    same (inl c) (inl d) = let both : Some x ≡ Some y = sym (r.back x) ∙ ap (named (table text values)) (sym c ∙ d) ∙ r.back y in cc both
-    same (inl c) (inr d) = absurd (not_naga r word x d.0 c)
-    same (inr c) (inl d) = absurd (not_naga r word y c.0 d)
-    same (inr c) (inr d) = c.1 ∙ sym d.1
 
 -- the value of another word is that of naga's name
 pub other_named : {A : Type 0} {text by : A → List ℕ} {values : List A} {other : List ℕ} {value : A} → Renaming text by values other value
@@ -68,16 +52,3 @@ space_names sets.Standard s = inl refl
 
 pub space_renaming : (rules : RuleSet) → Renaming space_text (space_text_by rules) spaces (codes "immediate") spaces_of.PushConstant
 space_renaming rules = record { back = space_back; unknown = refl; names = space_names rules }
-
--- a format has naga's name, or it is the one that WGSL calls otherwise
-pub naga_or_other : (rules : RuleSet) (f : TexelFormat) → (texel_text_by rules f ≡ texel_text f) ⊎ (f ≡ texels.Rg11b10Float)
-naga_or_other rules f = elim (texel_names rules f) [ inl same ↦ inl same | inr named ↦ inr named.1 ]
-
-pub space_naga_or_other : (rules : RuleSet) (s : AddressSpace) → (space_text_by rules s ≡ space_text s) ⊎ (s ≡ spaces_of.PushConstant)
-space_naga_or_other rules s = elim (space_names rules s) [ inl same ↦ inl same | inr named ↦ inr named.1 ]
-
-pub one_texel : (rules : RuleSet) (word : List ℕ) (f g : TexelFormat) → IsTexel rules word f → IsTexel rules word g → f ≡ g
-one_texel rules = one_named (texel_renaming rules)
-
-pub one_space : (rules : RuleSet) (word : List ℕ) (s t : AddressSpace) → IsSpace rules word s → IsSpace rules word t → s ≡ t
-one_space rules = one_named (space_renaming rules)

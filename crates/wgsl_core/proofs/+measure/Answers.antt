@@ -1,7 +1,6 @@
 use Rattle.std.proofs.Common.{◌∙◌, subst, sym}
-use Rattle.wgsl_core.specs.View.{view}
+use Rattle.wgsl_core.proofs.Common.{view, IsMeasure}
 use Rattle.wgsl_core.specs.declared.layout.placing.Placing.{Placing}
-use Rattle.wgsl_core.specs.internal.Layout.{IsMeasure}
 use Rattle.wgsl_core.proofs.Layouts.{MeasureSoFar, matrix_measure, array_measure, measure_starts, measure_stops, measure_goes_on, measure_ends}
 use Rattle.wgsl_core.proofs.Scalars.{scalar_is}
 use Rattle.wgsl_core.proofs.+measure.Goals as goal

@@ -1,8 +1,6 @@
 use Rattle.std.proofs.Common.{◌≢◌, ◌∙◌, sym, ap, option_map}
-use Rattle.wgsl_rules.specs.conversion.Conversion.{Load}
-use Rattle.wgsl_core.specs.View.{view}
+use Rattle.wgsl_core.proofs.Common.{Load, view, node_view}
 use Rattle.wgsl_core.specs.Equality.{type_eq_decides}
-use Rattle.wgsl_core.specs.internal.Nodes.{node_view}
 use Rattle.wgsl_core.proofs.Ranks.{equal_rank, equal_steps, loaded_rank, loaded_steps, walked_rank, walked_steps, no_walk}
 use Rattle.wgsl_core.proofs.conversion.rank_below_layers.Goals as goal
 use Rattle.wgsl_core.proofs.conversion.rank_below_layers.Goals.{then-eq-via-then-eq, then-eq-via-else-eq+then-loads}

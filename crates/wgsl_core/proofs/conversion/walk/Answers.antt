@@ -1,7 +1,6 @@
 use Rattle.std.proofs.Common.{◌≡◌, ◌≢◌, ◌∙◌, Some, None, sym, ap, subst, refl, option_map, arith}
-use Rattle.wgsl_rules.specs.internal.Nodes.{parent_of}
+use Rattle.wgsl_core.proofs.Common.{parent_of, node_view}
 use Rattle.wgsl_rules.proofs.conversion.Walks.{Ancestor, itself, ancestor_up, ancestor_parent, ancestor_root, ancestor_short, ancestor_depth, converts_ancestor, converts_in_ancestor}
-use Rattle.wgsl_core.specs.internal.Nodes.{node_view}
 use Rattle.wgsl_core.proofs.Ranks.{no_rank}
 use Rattle.wgsl_core.proofs.conversion.walk.Goals as goal
 

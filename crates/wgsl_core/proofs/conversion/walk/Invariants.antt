@@ -1,7 +1,5 @@
 use Rattle.std.proofs.Common.{ℕ}
-use Rattle.wgsl_rules.specs.internal.Nodes.{rank_from_root}
-use Rattle.wgsl_rules.proofs.conversion.Walks.{Ancestor}
-use Rattle.wgsl_core.specs.internal.Nodes.{node_view}
+use Rattle.wgsl_core.proofs.Common.{rank_from_root, Ancestor, node_view}
 use Rattle.wgsl_core.proofs.conversion.walk.Given as goal
 
 -- the node met is `steps` parents above the target; if the source is above the target, it is above the node met

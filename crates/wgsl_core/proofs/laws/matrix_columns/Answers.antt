@@ -1,6 +1,5 @@
 use Rattle.std.proofs.Common.{◌↔◌, Some, sym, subst, arith}
-use Rattle.wgsl_rules.specs.types.Types.{WgslType, array, vec, mat}
-use Rattle.wgsl_rules.specs.layout.Layout.{HasSizeBy}
+use Rattle.wgsl_core.proofs.Common.{WgslType, array, vec, mat, HasSizeBy}
 use Rattle.wgsl_rules.proofs.layout.MatrixColumns.{columns_law}
 use Rattle.wgsl_core.proofs.laws.matrix_columns.Goals as goal
 

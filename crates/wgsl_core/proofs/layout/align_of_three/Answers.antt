@@ -1,8 +1,5 @@
 use Rattle.std.proofs.Common.{subst, sym}
-use Rattle.wgsl_syntax.specs.declared.rules.RuleSet.{RuleSet}
-use Rattle.wgsl_rules.specs.layout.Layout.{IsAlignOfThreeBy, IsExactly}
-use Rattle.wgsl_core.specs.View.{view}
-use Rattle.wgsl_core.specs.Placing.{IsValue}
+use Rattle.wgsl_core.proofs.Common.{RuleSet, IsAlignOfThreeBy, IsExactly, view, IsValue}
 use Rattle.wgsl_core.proofs.layout.align_of_three.Goals as goal
 
 pub returns-in-Standard : goal.returns-in-Standard

@@ -1,5 +1,4 @@
-use Rattle.wgsl_rules.proofs.layout.Steps.{counted_size}
-use Rattle.wgsl_core.specs.Placing.{IsValue}
+use Rattle.wgsl_core.proofs.Common.{counted_size, IsValue}
 use Rattle.wgsl_core.proofs.Layouts.{counted}
 use Rattle.wgsl_core.proofs.layout.array_size.Goals as goal
 

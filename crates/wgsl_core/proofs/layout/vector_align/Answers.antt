@@ -1,6 +1,4 @@
-use Rattle.wgsl_rules.proofs.layout.Steps.{other_align}
-use Rattle.wgsl_core.specs.View.{view}
-use Rattle.wgsl_core.specs.Placing.{IsValue}
+use Rattle.wgsl_core.proofs.Common.{other_align, view, IsValue}
 use Rattle.wgsl_core.proofs.layout.vector_align.Goals as goal
 
 pub returns-else-n-eq3 : goal.returns-else-n-eq3

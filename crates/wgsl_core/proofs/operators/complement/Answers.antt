@@ -1,8 +1,4 @@
-use Rattle.wgsl_syntax.specs.declared.operator.UnaryOperator.TheVariants.{BitwiseComplement}
-use Rattle.wgsl_rules.specs.operators.Answers.{IsUnaryAnswer}
-use Rattle.wgsl_core.specs.View.{view}
-use Rattle.wgsl_rules.specs.operators.UnaryRows.{complement_row}
-use Rattle.wgsl_rules.proofs.operators.Unary.{not_complemented}
+use Rattle.wgsl_core.proofs.Common.{BitwiseComplement, IsUnaryAnswer, view, complement_row, not_complemented}
 use Rattle.wgsl_core.proofs.Unary.{own_or_refused}
 use Rattle.wgsl_core.proofs.operators.complement.Goals as goal
 

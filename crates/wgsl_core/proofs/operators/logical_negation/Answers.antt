@@ -1,7 +1,4 @@
-use Rattle.wgsl_syntax.specs.declared.operator.UnaryOperator.TheVariants.{LogicalNegation}
-use Rattle.wgsl_rules.specs.operators.Answers.{IsUnaryAnswer}
-use Rattle.wgsl_rules.proofs.operators.Unary.{negated, not_negated}
-use Rattle.wgsl_core.specs.View.{view}
+use Rattle.wgsl_core.proofs.Common.{LogicalNegation, IsUnaryAnswer, negated, not_negated, view}
 use Rattle.wgsl_core.proofs.Unary.{own_or_refused}
 use Rattle.wgsl_core.proofs.operators.logical_negation.Goals as goal
 

@@ -1,7 +1,4 @@
-use Rattle.wgsl_syntax.specs.declared.operator.UnaryOperator.TheVariants.{Negation}
-use Rattle.wgsl_rules.specs.operators.Answers.{IsUnaryAnswer}
-use Rattle.wgsl_rules.proofs.operators.Unary.{opposed, not_opposed}
-use Rattle.wgsl_core.specs.View.{view}
+use Rattle.wgsl_core.proofs.Common.{Negation, IsUnaryAnswer, opposed, not_opposed, view}
 use Rattle.wgsl_core.proofs.Unary.{own_or_refused}
 use Rattle.wgsl_core.proofs.operators.negation.Goals as goal
 

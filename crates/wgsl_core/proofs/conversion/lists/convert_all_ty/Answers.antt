@@ -1,9 +1,7 @@
 use Rattle.std.proofs.Common.{rules, ◌≡◌, ◌∷◌, [], ◌++◌, sym, ◌∙◌, ap, refl, subst, inl, inr, true≢false, Some, None, is_some, option_map}
 use Rattle.std.proofs.iter.Next.{Yields-more}
-use Rattle.std.specs.Iterator.{Yields}
-use Rattle.wgsl_rules.specs.conversion.Lists.{IsCommonOfGiven}
+use Rattle.wgsl_core.proofs.Common.{Yields, IsCommonOfGiven, view}
 use Rattle.wgsl_rules.proofs.conversion.Lists.{common_of_given}
-use Rattle.wgsl_core.specs.View.{view}
 use Rattle.wgsl_core.proofs.Lists.{one_more_given, seen}
 use Rattle.wgsl_core.proofs.conversion.lists.convert_all_ty.Goals as goal
 

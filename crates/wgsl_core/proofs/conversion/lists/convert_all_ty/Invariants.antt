@@ -1,6 +1,5 @@
 use Rattle.std.proofs.Common.{Some, map}
-use Rattle.wgsl_rules.proofs.conversion.Folds.{IsFoldedFrom}
-use Rattle.wgsl_core.specs.View.{view}
+use Rattle.wgsl_core.proofs.Common.{IsFoldedFrom, view}
 use Rattle.wgsl_core.proofs.conversion.lists.convert_all_ty.Given as goal
 
 abbrev pub invariant-loop-t : goal.invariant-loop-t

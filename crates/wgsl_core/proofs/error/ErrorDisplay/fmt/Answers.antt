@@ -1,11 +1,5 @@
 use Rattle.std.proofs.Common.{◌∙◌, sym, ap, codes, decimal, string_bytes}
-use Rattle.std.proofs.Output.{has_written_of_eq}
-use Rattle.wgsl_rules.specs.types.Literals.{literal_text}
-use Rattle.wgsl_rules.specs.errors.Refusals.{message}
-use Rattle.wgsl_rules.specs.types.Spelling.{spelling}
-use Rattle.wgsl_core.specs.Instances.{literal_view}
-use Rattle.wgsl_core.specs.Answer.{refusal}
-use Rattle.wgsl_core.specs.View.{view}
+use Rattle.wgsl_core.proofs.Common.{has_written_of_eq, literal_text, message, spelling, literal_view, refusal, view}
 use Rattle.wgsl_core.proofs.Listed.{two_placed, three_placed}
 use Rattle.wgsl_core.proofs.error.ErrorDisplay.fmt.Goals as goal
 

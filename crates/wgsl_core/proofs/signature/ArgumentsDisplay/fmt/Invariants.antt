@@ -1,7 +1,5 @@
 use Rattle.std.proofs.Common.{take, ◌++◌, codes, flat_map}
-use Rattle.std.specs.Fmt.{HasWritten, IsPlainFormatter}
-use Rattle.wgsl_rules.specs.types.Spelling.{spelling}
-use Rattle.wgsl_core.specs.View.{view}
+use Rattle.wgsl_core.proofs.Common.{HasWritten, IsPlainFormatter, spelling, view}
 use Rattle.wgsl_core.proofs.signature.ArgumentsDisplay.fmt.Given as goal
 
 abbrev pub invariant-loop-ty : goal.invariant-loop-ty

@@ -1,9 +1,5 @@
 use Rattle.std.proofs.Common.{ap, ◌∙◌, ◌++◌, codes, option_map, string_bytes}
-use Rattle.std.proofs.Output.{has_written_of_eq}
-use Rattle.wgsl_rules.specs.types.Signatures.{parameter_text}
-use Rattle.wgsl_rules.specs.types.Spelling.{spelling}
-use Rattle.wgsl_core.specs.Instances.{parameter_view}
-use Rattle.wgsl_core.specs.View.{view}
+use Rattle.wgsl_core.proofs.Common.{has_written_of_eq, parameter_text, spelling, parameter_view, view}
 use Rattle.wgsl_core.proofs.Listed.{listed_seen, without_template, with_template}
 use Rattle.wgsl_core.proofs.signature.CallSignatureDisplay.fmt.Goals as goal
 

@@ -1,7 +1,5 @@
 use Rattle.std.proofs.Common.{take, ◌++◌, codes, flat_map}
-use Rattle.std.specs.Fmt.{HasWritten, IsPlainFormatter}
-use Rattle.wgsl_rules.specs.types.Signatures.{parameter_text}
-use Rattle.wgsl_core.specs.Instances.{parameter_view}
+use Rattle.wgsl_core.proofs.Common.{HasWritten, IsPlainFormatter, parameter_text, parameter_view}
 use Rattle.wgsl_core.proofs.signature.ParametersDisplay.fmt.Given as goal
 
 abbrev pub invariant-loop-parameter : goal.invariant-loop-parameter

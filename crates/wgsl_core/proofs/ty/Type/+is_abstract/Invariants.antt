@@ -1,5 +1,4 @@
-use Rattle.wgsl_core.specs.View.{view}
-use Rattle.wgsl_core.specs.internal.Forms.{layers}
+use Rattle.wgsl_core.proofs.Common.{view, layers}
 use Rattle.wgsl_core.proofs.ty.Type.+is_abstract.Given as goal
 
 abbrev pub decreases-is_abstract : goal.decreases-is_abstract

@@ -1,6 +1,5 @@
 use Rattle.std.proofs.Common.{◌↔◌, ◌∙◌, IsTrue, sym, ap, subst, option_map}
-use Rattle.wgsl_rules.specs.conversion.Conversion.{ConvertsTo}
-use Rattle.wgsl_core.specs.View.{view}
+use Rattle.wgsl_core.proofs.Common.{ConvertsTo, view}
 use Rattle.wgsl_core.proofs.Vectors.{inside_vector, outside_vector}
 use Rattle.wgsl_core.proofs.ty.Type.is_convertible_to_vector.Goals as goal
 

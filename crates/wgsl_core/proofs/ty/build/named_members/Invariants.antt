@@ -1,6 +1,5 @@
 use Rattle.std.proofs.Common.{◌≡◌, map}
-use Rattle.wgsl_core.specs.View.{view, member_view}
-use Rattle.wgsl_core.specs.ResultStruct.{plain}
+use Rattle.wgsl_core.proofs.Common.{view, member_view, plain}
 use Rattle.wgsl_core.proofs.ty.build.named_members.Given as goal
 
 abbrev pub invariant-loop-name : goal.invariant-loop-name

@@ -1,6 +1,5 @@
 use Rattle.std.proofs.Common.{◌∙◌, ap, codes}
-use Rattle.wgsl_rules.specs.types.Types.{struct}
-use Rattle.wgsl_core.specs.View.{members_of}
+use Rattle.wgsl_core.proofs.Common.{struct, members_of}
 use Rattle.wgsl_core.proofs.Built.{bool_is, u32_is, f32_is, grown, intersection_is}
 use Rattle.wgsl_core.proofs.ty.result_type.push_intersection.Goals as goal
 

@@ -1,6 +1,5 @@
 use Rattle.std.proofs.Common.{◌∙◌, ap}
-use Rattle.wgsl_rules.specs.types.Types.{scalar}
-use Rattle.wgsl_rules.specs.types.ResultStructs.{shaped}
+use Rattle.wgsl_core.proofs.Common.{scalar, shaped}
 use Rattle.wgsl_core.proofs.Built.{same_view, frexp_is, modf_is}
 use Rattle.wgsl_core.proofs.ty.result_type.result_struct.Goals as goal
 

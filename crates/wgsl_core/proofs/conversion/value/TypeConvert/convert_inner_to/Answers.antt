@@ -1,6 +1,5 @@
 use Rattle.std.proofs.Common.{◌≡◌, ◌∙◌, IfOk, IsOk, option_map, sym, ap, subst}
-use Rattle.wgsl_core.specs.View.{view}
-use Rattle.wgsl_core.specs.Converted.{NeedsNoMemory}
+use Rattle.wgsl_core.proofs.Common.{view, NeedsNoMemory}
 use Rattle.wgsl_core.proofs.Converted.{in_its_element, as_a_whole}
 use Rattle.wgsl_core.proofs.conversion.value.TypeConvert.convert_inner_to.Goals as goal
 
