@@ -1,7 +1,6 @@
 // What is done with declarations and statements, by what is noted.
 ghost use Rattle.std.specs.Prelude.{◌≡◌, ◌∷◌, IfOk, Some, map, option_map};
 ghost use Rattle.wgsl_core.specs.View.{view};
-ghost use Rattle.wgsl_spelling.specs.Names.{access_named};
 ghost use Rattle.wgsl_expressions.specs.Stack.{an_asked, call_on};
 ghost use Rattle.wgsl_expressions.specs.Statements.{listed, stated, types_of, with_access, with_space};
 ghost use Rattle.wgsl_expressions.specs.Steps.{Annotated, Asks, Assigned, Assigns, AssignsBy, Begun, Changes, Increments, InSpace, OfType, Overloads, Value, WithAccess, WithStruct};
@@ -15,12 +14,11 @@ use crate::scope::Scope;
 use crate::source::Source;
 use crate::statement::{Question, Statement, assignment_of, statement_of, with_access, with_space};
 use std::alloc::{AllocError, Global};
-use std::str::FromStr;
 use wgsl_core::error::Fail;
 use wgsl_core::ty::Type;
 use wgsl_reader::kind::Kind;
 use wgsl_spelling::fault::{Cause, Expected};
-use wgsl_syntax::address::{AccessMode, AddressSpace};
+use wgsl_syntax::address::{AccessMode, AddressSpace, access_named};
 use wgsl_syntax::operator::AssignmentOperator;
 use wgsl_syntax::rules::RuleSet;
 
@@ -129,15 +127,6 @@ pub(crate) fn put_access(
     match access_named(source.text_at(count)) {
         Some(access) => put_with_access(source, access, items),
         None => Err(source.misread(count, expected(Expected::AccessMode))),
-    }
-}
-
-fn access_named(word: &str) -> Option<AccessMode>
-    ensures { result ≡ access_named word.now }
-{
-    match AccessMode::from_str(word) {
-        Ok(access) => Some(access),
-        Err(_) => None,
     }
 }
 

@@ -1,6 +1,8 @@
 // Why a line in WGSL can't be read, as a message.
 use crate::misread::Wanted;
 use std::alloc::AllocError;
+use wgsl_requests::write::overloads::write_suggestion;
+use wgsl_requests::write::word::write_word;
 use wgsl_spelling::fault::Cause;
 use wgsl_spelling::meant::meant;
 use wgsl_standard::callee::{Callee, overloads};
@@ -17,9 +19,6 @@ pub enum Why {
     /// The index of the byte from which there is no type.
     Type(usize),
 }
-
-/// How many bytes of a token are written.
-const SHOWN: usize = 40;
 
 /// Writes why a line can't be read.
 pub fn write_why(request: &[u8], why: Why, text: &mut String) -> Result<(), AllocError> {
@@ -42,10 +41,7 @@ fn write_misread(
     let (column, reason) = (at.saturating_add(1), wanted.text());
     write!(text, "column {column}: {reason}")?;
     match (wanted, token_at(request, at)) {
-        (Wanted::Faultless(cause), Some(token)) => match meant(cause, token) {
-            Some(name) => write!(text, "; did you mean `{name}`?"),
-            None => Ok(()),
-        },
+        (Wanted::Faultless(cause), Some(token)) => write_suggestion(text, meant(cause, token)),
         _ => Ok(()),
     }
 }
@@ -56,7 +52,7 @@ fn write_no_type_at(request: &[u8], at: usize, text: &mut String) -> Result<(), 
     write!(text, "column {column}: ")?;
     match token_at(request, at) {
         Some(token) if is_near_type(token) => {
-            write_token(token, text)?;
+            write_word(token, text)?;
             write_no_type(token, text)
         }
         _ => text.push_str("expected a type"),
@@ -73,7 +69,7 @@ fn write_no_operand(request: &[u8], at: usize, text: &mut String) -> Result<(), 
     write!(text, "column {column}: ")?;
     match token_at(request, at) {
         Some(token) => {
-            write_token(token, text)?;
+            write_word(token, text)?;
             write_no_type(token, text)
         }
         None => text.push_str("expected an operand"),
@@ -107,13 +103,5 @@ fn token_at(request: &[u8], at: usize) -> Option<&str> {
     match rest.bytes().take_while(goes_on).count() {
         0 => None,
         length => rest.get(..length),
-    }
-}
-
-/// Writes a token between backticks: its first bytes, and `..` if there are more.
-fn write_token(token: &str, text: &mut String) -> Result<(), AllocError> {
-    match token.get(..SHOWN) {
-        Some(shown) if token.len() > SHOWN => write!(text, "`{shown}..`"),
-        _ => write!(text, "`{token}`"),
     }
 }

@@ -1,6 +1,6 @@
 -- Lists as they are written, over values and over what these are seen as.
 use Rattle.std.proofs.Common.{◌≡◌, ◌∙◌, ◌++◌, ℕ, List, [], ◌∷◌, Option, Some, codes, decimal, map, refl, sym, ap, append_assoc}
-use Rattle.std.specs.List.{flat_map}
+use Rattle.std.proofs.lemmas.List.Folds.{flat_map-map}
 use Rattle.wgsl_rules.specs.types.Types.{WgslType}
 use Rattle.wgsl_rules.specs.types.Signatures.{listed, parameter_text, template_text}
 use Rattle.wgsl_rules.specs.types.Spelling.{wgsl_spelling}
@@ -17,10 +17,6 @@ use Rattle.wgsl_requests.specs.Calls.{WgslCall, loaded}
 use Rattle.wgsl_requests.specs.StandardViews.{written_view}
 use Rattle.wgsl_requests.specs.Texts.{lines_text, no_overload_text, refusal_for, resolution_text, result_text, suggestion, unknown_text}
 use Rattle.wgsl_requests.specs.internal.Written.{lined}
-
-flat_map-map : {A B : Type 0} (text : B → List ℕ) (f : A → B) (xs : List A) → flat_map text (map f xs) ≡ flat_map (λ x. text (f x)) xs
-flat_map-map text f [] = refl
-flat_map-map text f (x ∷ xs) = ap (λ rest. text (f x) ++ rest) (flat_map-map text f xs)
 
 pub listed_seen : {A B : Type 0} (text : B → List ℕ) (f : A → B) (xs : List A) → listed text (map f xs) ≡ listed (λ x. text (f x)) xs
 listed_seen text f [] = refl

@@ -1,8 +1,9 @@
 -- The overloads of a name.
-use Rattle.std.proofs.Common.{◌≡◌, ◌∙◌, ℕ, Bool, true, false, List, [], ◌∷◌, Result, Ok, Err, map, filter, refl, sym, ap}
+use Rattle.std.proofs.Common.{◌≡◌, ◌∙◌, ℕ, List, [], ◌∷◌, Result, Ok, Err, map, filter, refl, sym, ap}
 use Rattle.std.specs.List.{flat_map}
 use Rattle.std.specs.Prelude.{⊤}
 use Rattle.std.specs.Str.{bytes_eq}
+use Rattle.std.proofs.lemmas.Bool.{false_from_ne_true}
 use Rattle.std.proofs.lemmas.List.{append-nil}
 use Rattle.std.proofs.lemmas.Slice.Eq.{bytes_eq-Decides}
 use Rattle.wgsl_syntax.specs.Names.{Reads}
@@ -17,11 +18,7 @@ use Rattle.wgsl_standard.proofs.NumberedLines.{one_binary, one_unary}
 -- where no value has the text, none of a list is left
 none_left : {A : Type 0} (text : A → List ℕ) (name : List ℕ) → ((x : A) → ¬ name ≡ text x) → (xs : List A) → filter (λ x. bytes_eq name (text x)) xs ≡ []
 none_left text name none [] = refl
-none_left {A} text name none (x ∷ xs) = step (none_left text name none xs) (bytes_eq name (text x)) refl
-  where
-    step : filter (λ x. bytes_eq name (text x)) xs ≡ [] → (is : Bool) → bytes_eq name (text x) ≡ is → filter (λ x. bytes_eq name (text x)) (x ∷ xs) ≡ []
-    step rest true e = absurd (none x ((bytes_eq-Decides name (text x)).0 e))
-    step rest false e = rw e rest
+none_left text name none (x ∷ xs) = rw (false_from_ne_true (bytes_eq name (text x)) (λ e. none x ((bytes_eq-Decides name (text x)).0 e))) (none_left text name none xs)
 
 -- what is read of a name
 no_value : {A : Type 0} (text : A → List ℕ) (name : List ℕ) (r : Result A ⊤) (e : ⊤) → Reads text name r → r ≡ Err e → (x : A) → ¬ name ≡ text x

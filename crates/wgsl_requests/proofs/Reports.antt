@@ -1,16 +1,13 @@
 -- The lines of a struct's layout.
-use Rattle.std.proofs.Common.{◌≡◌, ◌⊎◌, inl, inr, Box, Global, ℕ, List, [], ◌∷◌, ◌++◌, codes, decimal, string_bytes, refl, sym, ap, ◌∙◌, append_assoc, rules}
-use Rattle.wgsl_rules.specs.types.Types.{WgslType, struct, Members}
+use Rattle.std.proofs.Common.{◌≡◌, ◌⊎◌, inl, inr, ℕ, List, [], ◌∷◌, ◌++◌, codes, decimal, string_bytes, refl, sym, ap, ◌∙◌, append_assoc, rules}
+use Rattle.wgsl_rules.specs.types.Types.{WgslType, Members}
 use Rattle.wgsl_rules.specs.types.Spelling.{spelling}
 use Rattle.wgsl_core.specs.View.{member_view, struct_view, view}
 use Rattle.wgsl_core.specs.Layout.{layouts_of, offsets_of}
 use Rattle.wgsl_core.specs.internal.View.{members_view}
 use Rattle.wgsl_core.specs.declared.layout.PlacedMember.{PlacedMember}
 use Rattle.wgsl_core.specs.declared.layout.StructLayout.{StructLayout}
-use Rattle.wgsl_core.proofs.Layouts.{members_at}
-use Rattle.wgsl_core.proofs.Views.{view-Struct}
-use Rattle.wgsl_core.specs.declared.ty.Type.{«Type», the_lemmas}
-use Rattle.wgsl_core.specs.declared.ty.Type.TheVariants as v
+use Rattle.wgsl_core.specs.declared.ty.Type.{the_lemmas}
 use Rattle.wgsl_core.specs.declared.ty.StructType.{StructType, out-StructType}
 use Rattle.wgsl_core.specs.declared.ty.StructMemberType.{StructMemberType, out-StructMemberType}
 use Rattle.wgsl_requests.specs.Layouts.{column, columns, member_line, member_lines, struct_line, layout_text}
@@ -25,14 +22,6 @@ type_seen m = search (rules, the_lemmas)
 
 pub struct_name_seen : (s : StructType) → (struct_view s).name ≡ string_bytes (out-StructType s).name
 struct_name_seen s = search (rules, the_lemmas)
-
--- a struct that is behind a box
-pub struct_seen : (t : «Type») (b : Box StructType Global) (s : StructType) → t ≡ v.Struct b → s ≡ b.value → view t ≡ struct (struct_view s).name (struct_view s).members
-struct_seen t b s e f =
-    ap view e ∙ view-Struct b
-    ∙ ap (λ (x : StructType). struct (string_bytes (out-StructType x).name) (members_view ((out-StructType x).members).items)) (sym f)
-    ∙ ap (λ n. struct n (members_view ((out-StructType s).members).items)) (sym (struct_name_seen s))
-    ∙ ap (λ ms. struct (struct_view s).name ms) (members_at s ((out-StructType s).members).items refl)
 
 -- three columns, of texts that are padded already
 pub in_columns : (a b c x y z rest : List ℕ) → x ≡ column a → y ≡ column b → z ≡ column c → x ++ (32 ∷ (y ++ (32 ∷ (z ++ (32 ∷ rest))))) ≡ columns a b c ++ rest

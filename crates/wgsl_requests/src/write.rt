@@ -14,6 +14,7 @@ ghost use Rattle.wgsl_requests.specs.internal.Written.{IsRefusal};
 mod layout;
 mod lists;
 pub mod overloads;
+pub mod word;
 
 use crate::answers::{Answer, Operands};
 use crate::ask::answer;

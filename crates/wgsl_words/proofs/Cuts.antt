@@ -4,6 +4,7 @@ use Rattle.std.proofs.Common.{◌≡◌, ℕ, ◌+◌, ◌-◌, ◌<◌, ◌≤�
 use Rattle.std.specs.Borrow.{Bor}
 use Rattle.std.specs.List.{prefix_len, take_while}
 use Rattle.std.specs.Str.{IsCharBoundary, IsAscii}
+use Rattle.std.proofs.lemmas.Bool.{not-false}
 use Rattle.std.proofs.lemmas.List.{drop-drop, length-drop}
 use Rattle.std.proofs.lemmas.List.Folds.{length-prefix_len}
 use Rattle.std.proofs.lemmas.List.Sums.{prefix_len-le-length, prefix_len_passes, prefix_len_stops}
@@ -14,10 +15,6 @@ use Rattle.wgsl_words.proofs.FirstWord.{word_len, words-cut, words-word, words_o
 
 separator_ascii : (b : ℕ) → is_separator b ≡ true → b < 128
 separator_ascii b e = grind (arith, common_steps, e)
-
-passed : (b : Bool) → not b ≡ false → b ≡ true
-passed true e = refl
-passed false e = sym e
 
 pub gap_boundary : (text : List ℕ) (gap : ℕ) → IsUtf8 text → gap ≡ length (take_while is_separator text) → IsCharBoundary text gap
 gap_boundary text zero u e = IsCharBoundary-start text u
@@ -31,7 +28,7 @@ gap_boundary text (suc k) u e =
 prefix_boundary : (rest : List ℕ) → IsCharBoundary rest (word_len is_separator rest)
 prefix_boundary rest =
     let within : word_len is_separator rest ≤ length rest = prefix_len-le-length (λ byte. not (is_separator byte)) rest in
-    (within, λ lt. (IsCharBoundary-before_ascii rest _ lt (separator_ascii _ (passed _ (prefix_len_stops (λ byte. not (is_separator byte)) rest 0 lt)))).1 lt)
+    (within, λ lt. (IsCharBoundary-before_ascii rest _ lt (separator_ascii _ (not-false _ (prefix_len_stops (λ byte. not (is_separator byte)) rest 0 lt)))).1 lt)
 
 pub word_boundary : (rest : List ℕ) (len : ℕ) → len ≡ length (take_while (λ byte. not (is_separator byte)) rest) → IsCharBoundary rest len
 word_boundary rest len e = subst (IsCharBoundary rest) (sym (e ∙ length-prefix_len (λ byte. not (is_separator byte)) rest)) (prefix_boundary rest)
@@ -42,7 +39,7 @@ pub word_has_bytes : (text rest : List ℕ) (gap len : ℕ) → gap ≡ length (
 word_has_bytes text rest gap zero e is f more =
     let q : ℕ → Bool = λ byte. not (is_separator byte) in
     let whole : 0 ≡ prefix_len q rest = f ∙ length-prefix_len q rest in
-    let front : is_separator (get_or rest 0 0) ≡ true = passed _ (subst (λ n. q (get_or rest n 0) ≡ false) (sym whole) (prefix_len_stops q rest 0 (subst (λ n. n < length rest) whole more))) in
+    let front : is_separator (get_or rest 0 0) ≡ true = not-false _ (subst (λ n. q (get_or rest n 0) ≡ false) (sym whole) (prefix_len_stops q rest 0 (subst (λ n. n < length rest) whole more))) in
     let at : gap ≡ prefix_len is_separator text = e ∙ length-prefix_len is_separator text in
     let inside : prefix_len is_separator text < length text = grind (arith, common_steps, at, is, more) in
     let here : get_or rest 0 0 ≡ get_or text gap 0 = rw is (grind (arith, common_steps)) in

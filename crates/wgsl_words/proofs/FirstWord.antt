@@ -3,6 +3,7 @@ use Rattle.std.proofs.Common.{◌≡◌, ℕ, ◌+◌, ◌<◌, Bool, true, fals
 use Rattle.std.specs.List.{filter, prefix_len, take_while}
 use Rattle.std.proofs.lemmas.List.Folds.{length-prefix_len}
 use Rattle.std.proofs.lemmas.Grind.{common_steps}
+use Rattle.std.proofs.lemmas.List.{nil_from_length}
 use Rattle.wgsl_requests.specs.Replies.{has_line_feed, is_line_feed}
 use Rattle.wgsl_words.specs.Words.{pieces, has_bytes, is_separator, words_of}
 
@@ -31,10 +32,6 @@ after_cut cuts b bs e = rw e (drop-one (gap_len cuts bs) b bs)
 after_no_cut : (cuts : ℕ → Bool) (b : ℕ) (bs : List ℕ) → cuts b ≡ false
     → drop (gap_len cuts (b ∷ bs)) (b ∷ bs) ≡ b ∷ bs
 after_no_cut cuts b bs e = rw e refl
-
-length-zero : (bytes : List ℕ) → length bytes ≡ 0 → bytes ≡ []
-length-zero [] e = refl
-length-zero (b ∷ bs) e = let never : ⊥ = grind (arith, common_steps, e) in absurd never
 
 -- the pieces of bytes: the bytes before the first separator, and those after it
 pub record Splits (cuts : ℕ → Bool) (bytes : List ℕ) : Type 0 where
@@ -96,7 +93,7 @@ pub words_of-blank : (bytes : List ℕ) (gap : ℕ) → gap ≡ length (take_whi
     → length (drop gap bytes) ≡ 0 → words_of bytes ≡ []
 words_of-blank bytes gap at h =
     let e : gap ≡ gap_len is_separator bytes = at ∙ length-prefix_len is_separator bytes in
-    let none : drop (gap_len is_separator bytes) bytes ≡ [] = rw (← e) (length-zero _ h) in
+    let none : drop (gap_len is_separator bytes) bytes ≡ [] = rw (← e) (nil_from_length _ h) in
     sym (words-gap is_separator bytes) ∙ ap (words is_separator) none
 
 pub words_of-first : (bytes rest : List ℕ) (gap len : ℕ) → gap ≡ length (take_while is_separator bytes)

@@ -1,20 +1,13 @@
 -- Template parameters, read one after another.
 use Rattle.std.proofs.Common.{◌≡◌, ◌≢◌, ◌≤◌, ◌++◌, ◌∷◌, Bool, true, false, ℕ, zero, suc, List, [], length, Option, Some, None, codes, cond, refl, sym, ap, subst, ◌∙◌, arith}
 use Rattle.std.specs.Str.{bytes_eq}
+use Rattle.std.proofs.lemmas.Bool.{false_from_ne_true}
 use Rattle.std.proofs.lemmas.List.{append-nil}
 use Rattle.std.proofs.lemmas.Slice.Eq.{bytes_eq-Decides}
 use Rattle.wgsl_rules.specs.types.Signatures.{Parameter}
 use Rattle.wgsl_words.specs.Reader.{Words, a_word, and_then, pure}
 use Rattle.wgsl_words.specs.Templates.{parameter_from, parameters_at, parameters_within}
 use Rattle.wgsl_words.proofs.Reading.{front_none, front_one, in_front, is_cons, is_nil}
-
--- a word is not this one
-not_eq : (a b : List ℕ) → a ≢ b → bytes_eq a b ≡ false
-not_eq a b n = test (bytes_eq a b) refl
-  where
-    test : (v : Bool) → bytes_eq a b ≡ v → bytes_eq a b ≡ false
-    test true e = absurd (n ((bytes_eq-Decides a b).0 e))
-    test false e = e
 
 -- The parameters were read, and those in these words are to be.
 abbrev pub Part : Words → List Parameter → Words → Type 0
@@ -55,7 +48,7 @@ module _ (start : Words) (ps : List Parameter) (now : Words) (h : Part start ps 
     part_end is = opened.2 ∙ (ap (λ v. in_front ps (cond (bytes_eq v (codes ">")) (Some ([], mid)) (behind opened.0 w mid))) is ∙ ap (λ qs. Some (qs, mid)) (append-nil ps))
 
     other : w ≢ codes ">" → parameters_at start ≡ in_front ps (behind opened.0 w mid)
-    other not_end = opened.2 ∙ ap (λ b. in_front ps (cond b (Some ([], mid)) (behind opened.0 w mid))) (not_eq w (codes ">") not_end)
+    other not_end = opened.2 ∙ ap (λ b. in_front ps (cond b (Some ([], mid)) (behind opened.0 w mid))) (false_from_ne_true _ (λ e. not_end ((bytes_eq-Decides w (codes ">")).0 e)))
 
     pub part_none : w ≢ codes ">" → parameter_from w mid ≡ None → parameters_at start ≡ None
     part_none not_end f = other not_end ∙ ap (λ o. in_front ps (and_then o (λ p. λ words. and_then (parameters_within opened.0 words) (λ ps. pure (p ∷ ps))))) f

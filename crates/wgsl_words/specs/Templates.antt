@@ -1,7 +1,6 @@
 -- Literals and templates in words.
-use Rattle.std.specs.Prelude.{ℕ, zero, suc, ℤ, ◌-◌, ◌^◌, ◌&&◌, Bool, true, false, List, [], ◌∷◌, Option, Some, None, codes, drop, if◌then◌else◌, length, nat_lt, neg_ℤ, negsuc, option_and_then, option_map, pos, take}
+use Rattle.std.specs.Prelude.{ℕ, zero, suc, ℤ, ◌-◌, ◌^◌, ◌&&◌, Bool, true, false, List, [], ◌∷◌, Option, Some, None, codes, drop, if◌then◌else◌, length, nat_lt, neg_ℤ, negsuc, option_and_then, option_map, pos, take, nat_eq}
 use Rattle.std.specs.List.{ends_with}
-use Rattle.std.specs.Prelude.{nat_eq}
 use Rattle.std.specs.Str.{all_ascii_digits, bytes_eq}
 use Rattle.std.specs.Str.Parse.{digits_value, starts_with_minus}
 use Rattle.wgsl_syntax.specs.declared.address.AddressSpace.{AddressSpace}

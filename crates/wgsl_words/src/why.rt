@@ -3,6 +3,8 @@ use crate::wanted::{Misfit, Misread, Wanted};
 use crate::words::Words;
 use std::alloc::AllocError;
 use std::str::FromStr;
+use wgsl_requests::write::overloads::write_suggestion;
+use wgsl_requests::write::word::write_word;
 use wgsl_standard::meant::meant_type;
 use wgsl_syntax::scalar::Scalar;
 
@@ -13,9 +15,6 @@ pub enum Why {
     NotUtf8,
     Word(Misread),
 }
-
-/// How many bytes of a word are written.
-const SHOWN: usize = 40;
 
 /// Writes why the request can't be read.
 pub fn write_why(request: &[u8], why: Why, text: &mut String) -> Result<(), AllocError> {
@@ -89,10 +88,7 @@ fn write_verdict(word: &str, wanted: Option<Wanted>, text: &mut String) -> Resul
         _ => None,
     };
     write!(text, " is no {noun}")?;
-    match meant {
-        Some(name) => write!(text, "; did you mean `{name}`?"),
-        None => Ok(()),
-    }
+    write_suggestion(text, meant)
 }
 
 /// The scalar that a word may have meant: the other types are several words.
@@ -100,27 +96,6 @@ fn scalar_meant(word: &str) -> Option<&str> {
     match meant_type(word) {
         Some(name) if Scalar::from_str(name).is_ok() => Some(name),
         _ => None,
-    }
-}
-
-/// Writes a word between backticks: its first bytes, and `..` if there are more.
-fn write_word(word: &str, text: &mut String) -> Result<(), AllocError> {
-    text.push('`')?;
-    for byte in word.as_bytes().iter().take(SHOWN) {
-        write_byte(*byte, text)?;
-    }
-    if word.len() > SHOWN {
-        text.push_str("..")?;
-    }
-    text.push('`')
-}
-
-/// Writes a byte as itself, if it can be printed and is ASCII, else by its number.
-fn write_byte(byte: u8, text: &mut String) -> Result<(), AllocError> {
-    if byte.is_ascii_graphic() && byte != b'\\' {
-        text.push(char::from(byte))
-    } else {
-        write!(text, "\\x{byte:02x}")
     }
 }
 

@@ -99,11 +99,13 @@ pub(crate) fn write_offsets(text: &mut String, offsets: &Option<Vec<u32>>) -> Re
 fn write_spaced(text: &mut String, numbers: &[u32]) -> Result<(), AllocError>
     ensures { OnOk result (string_bytes text.new ≡ string_bytes text.old ++ spaced numbers.now) }
 {
-    let mut between = "";
-    for number in numbers {
-        text.push_str(between)?;
+    let Some((first, rest)) = numbers.split_first() else {
+        return Ok(());
+    };
+    write_number(text, *first)?;
+    for number in rest {
+        text.push_str(" ")?;
         write_number(text, *number)?;
-        between = " ";
     }
     Ok(())
 }

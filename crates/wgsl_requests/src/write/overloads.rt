@@ -116,7 +116,8 @@ fn write_unknown(text: &mut String, name: &str) -> Result<(), AllocError>
     write_suggestion(text, meant(name))
 }
 
-fn write_suggestion(text: &mut String, name: Option<&str>) -> Result<(), AllocError>
+/// Writes which name may be meant, if one may.
+pub fn write_suggestion(text: &mut String, name: Option<&str>) -> Result<(), AllocError>
     ensures { OnOk result (string_bytes text.new
         ≡ string_bytes text.old ++ suggestion (option_map (λ name. name.now) name.entry)) }
 {

@@ -1,6 +1,7 @@
 use Rattle.std.proofs.Common.{◌≡◌, ◌∙◌, ◌+◌, ◌%◌, ◌∷◌, ◌++◌, [], ap, arith, decimal, string_bytes}
 use Rattle.wgsl_requests.proofs.Digits.{last_digit, one_digit}
-use Rattle.wgsl_requests.proofs.Written.{on_ok, pushed}
+use Rattle.std.proofs.lemmas.Result.{on_ok_weaker}
+use Rattle.wgsl_requests.proofs.Written.{pushed}
 use Rattle.wgsl_requests.proofs.fast.number.+write_number.Goals.{then-number-ge10+in_ok-write_number, else-number-ge10}
 use Rattle.wgsl_requests.proofs.fast.number.+write_number.Goals as goal
 
@@ -14,4 +15,4 @@ returns t c =
       | then-number-ge10+in_ok-write_number w ↦ last_digit n before mid w.if-number-ge10.true (omega (arith, c.ranges.number.fits)) (ap string_bytes w.text-is ∙ w.in_ok-write_number.ensures)
       | else-number-ge10 w ↦ one_digit n before mid w.if-number-ge10.false (ap string_bytes w.text-is)
     ] in
-    on_ok c.push.result (λ written. written ∙ (digit ∙ whole)) (pushed c.push.result _ mid _ c.push.ensures.bytes)
+    on_ok_weaker c.push.result (λ written. written ∙ (digit ∙ whole)) (pushed c.push.result _ mid _ c.push.ensures.bytes)

@@ -4,7 +4,7 @@ use Rattle.wgsl_core.proofs.Layouts.{members_at}
 use Rattle.wgsl_requests.specs.Layouts.{struct_line}
 use Rattle.wgsl_requests.specs.internal.Written.{placed_lines}
 use Rattle.wgsl_requests.proofs.Reports.{reported, struct_name_seen}
-use Rattle.wgsl_requests.proofs.Written.{on_ok}
+use Rattle.std.proofs.lemmas.Result.{on_ok_weaker}
 use Rattle.wgsl_requests.proofs.write.layout.write_lines.Goals as goal
 
 pub returns : goal.returns
@@ -15,5 +15,5 @@ returns c =
     let mid = string_bytes c.write_members.new.text in
     let members = c.in_ok-write_members.ensures ∙ ap (λ x. old ++ placed_lines c.deref.result.now x) c.deref-2.ensures.value in
     let name = ap (λ n. mid ++ struct_line n l.size l.align) (c.deref-3.ensures ∙ sym (struct_name_seen s)) in
-    on_ok c.write_last.result (λ e. reported (struct_view s).name c.deref.result.now l (struct_view s).members old mid _ (members_at s c.deref.result.now c.deref.ensures.value) members (e ∙ name))
+    on_ok_weaker c.write_last.result (λ e. reported (struct_view s).name c.deref.result.now l (struct_view s).members old mid _ (members_at s c.deref.result.now c.deref.ensures.value) members (e ∙ name))
     c.write_last.ensures

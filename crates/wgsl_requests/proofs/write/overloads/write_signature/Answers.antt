@@ -1,7 +1,7 @@
 use Rattle.wgsl_requests.proofs.Listings.{resolution_written}
 use Rattle.std.proofs.Common.{◌∙◌}
-use Rattle.wgsl_requests.proofs.Written.{on_ok}
+use Rattle.std.proofs.lemmas.Result.{on_ok_weaker}
 use Rattle.wgsl_requests.proofs.write.overloads.write_signature.Goals as goal
 
 pub returns : goal.returns
-returns c = on_ok c.write_result.result (λ e. e ∙ resolution_written _ _ _ _ _ _ _ c.in_ok-write.ensures.bytes c.in_ok-write_types.ensures c.in_ok-push_str.ensures.bytes) c.write_result.ensures
+returns c = on_ok_weaker c.write_result.result (λ e. e ∙ resolution_written _ _ _ _ _ _ _ c.in_ok-write.ensures.bytes c.in_ok-write_types.ensures c.in_ok-push_str.ensures.bytes) c.write_result.ensures

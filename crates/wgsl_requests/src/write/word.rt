@@ -1,0 +1,26 @@
+// Writes the word that a message is about.
+use std::alloc::AllocError;
+
+/// How many bytes of a word are written.
+const SHOWN: usize = 40;
+
+/// Writes a word between backticks: its first bytes, and `..` if there are more.
+pub fn write_word(word: &str, text: &mut String) -> Result<(), AllocError> {
+    text.push('`')?;
+    for byte in word.as_bytes().iter().take(SHOWN) {
+        write_byte(*byte, text)?;
+    }
+    if word.len() > SHOWN {
+        text.push_str("..")?;
+    }
+    text.push('`')
+}
+
+/// Writes a byte as itself, if it can be printed and is ASCII, else by its number.
+fn write_byte(byte: u8, text: &mut String) -> Result<(), AllocError> {
+    if byte.is_ascii_graphic() && byte != b'\\' {
+        text.push(char::from(byte))
+    } else {
+        write!(text, "\\x{byte:02x}")
+    }
+}
