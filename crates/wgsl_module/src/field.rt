@@ -237,7 +237,7 @@ impl<'t> Checker<'t> {
         let is_entry_point = self.has(attributes, Name::Vertex)
             || self.has(attributes, Name::Fragment)
             || self.has(attributes, Name::Compute);
-        if must_use && (result.is_none() || is_entry_point) {
+        if must_use && result.is_none() {
             self.tell_name(Rule::Attribute, named, "has no value that can be used")?;
             return Ok(Known::Faulty);
         }

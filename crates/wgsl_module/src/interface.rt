@@ -184,6 +184,9 @@ impl<'t> Checker<'t> {
             if !has_location {
                 return Some(Trouble::Name(interpolate.named, "stands with @location"));
             }
+            if is_integer(ty) && !self.says(of, Name::Interpolate, "flat") {
+                return Some(Trouble::Name(interpolate.named, "of an integer is `flat`"));
+            }
         }
         if let Some(source) = self.attribute(of, Name::BlendSrc) {
             if self.missing("blend_src").is_some() {
@@ -332,11 +335,10 @@ impl<'t> Checker<'t> {
         ty: &Type,
     ) -> Result<Option<Trouble>, AllocError> {
         let is_between = (side.stage == ShaderStage::Vertex) != side.is_input;
-        let is_integer = matches!(component_of(ty), Type::I32 | Type::U32);
         let is_flat = self.says(of, Name::Interpolate, "flat");
         Ok(if side.stage == ShaderStage::Compute {
             Some(Trouble::Type("a compute shader has no @location"))
-        } else if is_between && is_integer && !is_flat {
+        } else if is_between && is_integer(ty) && !is_flat {
             Some(Trouble::Type("an integer between stages needs @interpolate(flat)"))
         } else if !self.is_free(&mut side.locations, of)? {
             Some(Trouble::Type("this @location stands here twice"))
@@ -352,6 +354,11 @@ pub fn component_of(ty: &Type) -> &Type {
         Form::Vector(_, of) => of,
         _ => ty,
     }
+}
+
+/// Whether a type is that of an integer, or of a vector of integers.
+fn is_integer(ty: &Type) -> bool {
+    matches!(component_of(ty), Type::I32 | Type::U32)
 }
 
 /// Whether a value of the type is carried between stages: a number, or a vector of numbers.

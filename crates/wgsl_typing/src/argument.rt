@@ -10,10 +10,17 @@ use wgsl_names::known::Part;
 use wgsl_names::value::Value;
 
 impl<'t> Expressions<'t> {
-    /// Arguments that must be const-expressions: offsets and components of textures, the index of a broadcast.
+    /// Arguments that must be const-expressions, or lie in a range if they are: offsets and components of textures, invocations
+    /// of a subgroup or a quad.
     pub fn check_constant(&mut self, name: &str, arguments: &[Part]) -> Result<(), AllocError> {
         match name {
-            "subgroupBroadcast" | "quadBroadcast" => self.is_const_argument(arguments.get(1)),
+            "subgroupBroadcast" | "quadBroadcast" => {
+                self.is_const_argument(arguments.get(1))?;
+                self.check_invocation(name, arguments.get(1))
+            }
+            _ if name.starts_with("subgroupShuffle") => {
+                self.check_invocation(name, arguments.get(1))
+            }
             "textureGather" => {
                 self.check_component(arguments.first())?;
                 self.check_offset(arguments)
@@ -30,6 +37,22 @@ impl<'t> Expressions<'t> {
                 if !typed.stage.is_const() {
                     return self.tell(Rule::Type, argument.place, "expected a const-expression");
                 }
+            }
+        }
+        Ok(())
+    }
+
+    /// An index of an invocation, or a difference or a mask of such indices: a quad has 4, a subgroup at most 128.
+    fn check_invocation(&mut self, name: &str, argument: Option<&Part>) -> Result<(), AllocError> {
+        let (last, message) = if name == "quadBroadcast" {
+            (3, "an index in a quad lies from 0 to 3")
+        } else {
+            (127, "an index in a subgroup lies from 0 to 127")
+        };
+        if let Some(argument) = argument {
+            let index = argument.integer().unwrap_or(0);
+            if index < 0 || index > last {
+                return self.tell(Rule::Value, argument.place, message);
             }
         }
         Ok(())

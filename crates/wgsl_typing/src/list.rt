@@ -1,5 +1,6 @@
 // Names with template lists (WGSL, "Template Lists", "Types").
 
+use crate::count::has_override_count;
 use crate::expressions::Expressions;
 use crate::item::{Item, Listed};
 use crate::meant::Wanted;
@@ -324,6 +325,10 @@ impl<'t> Expressions<'t> {
         // There is a pointer if there is a variable.
         if !self.allows(Place::last_of(named), variable(space, access, &of).err())? {
             return Ok(None);
+        }
+        if space != AddressSpace::Workgroup && has_override_count(&of) {
+            let message = "points to an array with a count that only `workgroup` may have";
+            return self.nothing(Rule::Template, named, message);
         }
         let access = access.unwrap_or(space.default_access_mode());
         Ok(Some(Type::Ptr(space, Box::new(self.alloc, of)?, access)))
