@@ -58,6 +58,7 @@ fn type_or_text(
 }
 
 /// An expression as an operand of a request.
+#[inline(always)]
 pub(crate) fn operand_of(x: &Typed) -> Operand<'_>
     ensures { written_view result ≡ operand (typed_view x.now) }
 {
@@ -65,6 +66,7 @@ pub(crate) fn operand_of(x: &Typed) -> Operand<'_>
 }
 
 /// Whether the expression is a const-expression.
+#[inline(always)]
 fn is_constant(x: &Typed) -> bool
     ensures { result ≡ is_constant (typed_view x.now) }
 {
@@ -250,10 +252,22 @@ pub(crate) fn call(
 fn ask_of(alloc: Global, head: &Head, parts: &[Typed]) -> Result<Result<Type, String>, AllocError>
     ensures { IfOk result (λ found. IsFound (result_of_call (head_view head.now)) (asked (head_view head.now) (map typed_view parts.now)) (shown view string_bytes found)) }
 {
-    let operands = operands_by(alloc, head, parts)?;
-    let found = ask_with(alloc, head, referent_of(parts), &operands);
-    drop(operands);
-    found
+    let referent = referent_of(parts);
+    match parts {
+        [x] => ask_with(alloc, head, referent, &[operand_by(head, x)]),
+        [x, y] => ask_with(
+            alloc,
+            head,
+            referent,
+            &[operand_by(head, x), operand_by(head, y)],
+        ),
+        _ => {
+            let operands = operands_by(alloc, head, parts)?;
+            let found = ask_with(alloc, head, referent, &operands);
+            drop(operands);
+            found
+        }
+    }
 }
 
 fn ask_with<'x>(
@@ -337,6 +351,7 @@ pub(crate) fn operands_by<'p>(
 }
 
 /// An operand of what stands in front of it.
+#[inline(always)]
 fn operand_by<'p>(head: &Head, x: &'p Typed) -> Operand<'p>
     ensures { written_view result ≡ operand_by (head_view head.now) (typed_view x.now) }
 {

@@ -63,6 +63,7 @@ impl<'r> Called<'r> {
 }
 
 /// What is asked about a call for its type.
+#[inline(always)]
 pub(crate) fn asked_about<'r>(
     head: &'r Head,
     referent: Referent,

@@ -55,6 +55,7 @@ pub(crate) fn behind(ty: &Type) -> &Type
 }
 
 /// One more part.
+#[inline(always)]
 pub(crate) fn with_part(parts: Parts, part: Outcome) -> Result<Parts, AllocError>
     ensures { IfOk result (λ all. shown (λ v. map typed_view v.items) refused_view all
         ≡ with_part (shown (λ v. map typed_view v.items) refused_view parts) (outcome_view part)) }

@@ -74,6 +74,7 @@ impl<'t> Source<'t> {
     }
 
     /// The type that is noted with the number of types inside it, or why none is.
+    #[inline(always)]
     pub(crate) fn type_noted(
         self,
         alloc: Global,

@@ -35,6 +35,7 @@ use wgsl_spelling::operator::{binary_of, unary_of};
 use wgsl_spelling::word::word;
 
 /// Does with the items what is noted at an index, with the names of a scope: the last item is on top.
+#[inline(always)]
 pub(crate) fn step(
     alloc: Global,
     source: Source<'_>,
@@ -106,6 +107,7 @@ fn put_literal(source: Source<'_>, count: usize, items: &mut Vec<Item>) -> Resul
 }
 
 /// `f32`, `const f32`
+#[inline(always)]
 fn put_given(
     alloc: Global,
     source: Source<'_>,
@@ -156,7 +158,7 @@ fn push_call(
 ) -> Result<(), Fail<Misread>>
     ensures { Does (λ r. r ≡ Some (a_call (begun at (head_view head)) ∷ items_view items.old.items)) items.new.items result }
 {
-    let parts = Ok(Vec::new(alloc));
+    let parts = Ok(Vec::with_capacity(alloc, 4)?);
     push(Item::Call(Call { at, head, parts }), items)
 }
 
@@ -279,7 +281,7 @@ fn put_unary(
         Some(operator) => {
             let at = source.byte_at(count);
             let head = Head::Unary(operator);
-            let parts = with_part(Ok(Vec::new(alloc)), x)?;
+            let parts = with_part(Ok(Vec::with_capacity(alloc, 1)?), x)?;
             end_call(alloc, source, index, Call { at, head, parts }, items)
         }
         None => {
@@ -305,7 +307,7 @@ fn put_binary(
         Some(operator) => {
             let at = source.byte_at(count);
             let head = Head::Binary(operator);
-            let parts = with_part(with_part(Ok(Vec::new(alloc)), x)?, y)?;
+            let parts = with_part(with_part(Ok(Vec::with_capacity(alloc, 2)?), x)?, y)?;
             end_call(alloc, source, index, Call { at, head, parts }, items)
         }
         None => {

@@ -41,9 +41,19 @@ macro_rules! symbol {
     };
 }
 
+/// The symbols of a line. In place of `(Expression)` stand those of its only line: one rule less for each expression.
 macro_rules! symbols {
     ([$($symbol:tt)*]) => {
-        &[$(symbol!($symbol)),*]
+        symbols!(@ [] $($symbol)*)
+    };
+    (@ [$($done:expr),*]) => {
+        &[$($done),*]
+    };
+    (@ [$($done:expr),*] (Expression) $($rest:tt)*) => {
+        symbols!(@ [$($done),*] (Unary) (Operators) $($rest)*)
+    };
+    (@ [$($done:expr),*] $next:tt $($rest:tt)*) => {
+        symbols!(@ [$($done,)* symbol!($next)] $($rest)*)
     };
 }
 

@@ -63,7 +63,7 @@ abbrev pub made : Tree → ℕ → Item
 made t at = item (place t at) (value t)
 
 abbrev pub list : List ℕ → ℕ → Parameters → TemplateList
-list w at parameters = record { name = item (token k.Name at (length w)) v.Name; parameters = parameters }
+list w at parameters = record { name = token k.Name at (length w); parameters = parameters }
 
 abbrev pub closing : List ℕ → TemplateList → Chain → Option Chain
 closing whole l c = then (listed_in whole l) (λ x. with_listed whole x c)
@@ -94,14 +94,14 @@ angle at = item (token k.OpenTemplate at 1) (v.Sign k.OpenTemplate)
 abbrev head : List ℕ → ℕ → Item
 head w at = item (token k.Name at (length w)) v.Name
 
-one_list : (x : Item) (at : ℕ) (front : Item) (items : List Item) → last_list (x ∷ angle at ∷ front ∷ items) ≡ Some (record { name = front; parameters = One x }, items)
+one_list : (x : Item) (at : ℕ) (front : Item) (items : List Item) → last_list (x ∷ angle at ∷ front ∷ items) ≡ Some (record { name = front.token; parameters = One x }, items)
 one_list x at front items = refl
 
-two_list : (x y : Item) (at : ℕ) (front : Item) (items : List Item) → is_open y ≡ false → last_list (x ∷ y ∷ angle at ∷ front ∷ items) ≡ Some (record { name = front; parameters = Two y x }, items)
+two_list : (x y : Item) (at : ℕ) (front : Item) (items : List Item) → is_open y ≡ false → last_list (x ∷ y ∷ angle at ∷ front ∷ items) ≡ Some (record { name = front.token; parameters = Two y x }, items)
 two_list x y at front items e = rw e refl
 
 three_list : (x y z : Item) (at : ℕ) (front : Item) (items : List Item) → is_open y ≡ false → is_open z ≡ false
-    → last_list (x ∷ y ∷ z ∷ angle at ∷ front ∷ items) ≡ Some (record { name = front; parameters = Three z y x }, items)
+    → last_list (x ∷ y ∷ z ∷ angle at ∷ front ∷ items) ≡ Some (record { name = front.token; parameters = Three z y x }, items)
 three_list x y z at front items e f = rw (e, f) refl
 
 module _ (whole : List ℕ) (ts : List Token) where

@@ -104,17 +104,17 @@ with_list symbols n ks o d = rule_read refl d
 
 -- an expression that begins with a name, or is a number
 named : (symbols : List Symbol) (n : ℕ) (ks : List Kind) (more : List Event) → ReadAt (s.Rule r.AfterValue ∷ s.Rule r.Operators ∷ symbols) (n + 1) ks (Ok more)
-    → ReadAt (s.Rule r.Expression ∷ symbols) n (k.Name ∷ ks) (Ok (event m.Name (n + 1) ∷ more))
+    → ReadAt (s.Rule r.Unary ∷ s.Rule r.Operators ∷ symbols) n (k.Name ∷ ks) (Ok (event m.Name (n + 1) ∷ more))
 unfolding expressions statements modules
-named symbols n ks more d = rule_read refl (rule_read refl (token_read refl (noted d)))
+named symbols n ks more d = rule_read refl (token_read refl (noted d))
 
 numbered : (symbols : List Symbol) (n : ℕ) (ks : List Kind) (more : List Event) → ReadAt (Rest symbols) (n + 1) ks (Ok more)
-    → ReadAt (s.Rule r.Expression ∷ symbols) n (k.Number ∷ ks) (Ok (event m.Literal (n + 1) ∷ more))
+    → ReadAt (s.Rule r.Unary ∷ s.Rule r.Operators ∷ symbols) n (k.Number ∷ ks) (Ok (event m.Literal (n + 1) ∷ more))
 unfolding expressions statements modules
-numbered symbols n ks more d = rule_read refl (rule_read refl (token_read refl (noted d)))
+numbered symbols n ks more d = rule_read refl (token_read refl (noted d))
 
 -- a list, from its `<` on
-opened : (symbols : List Symbol) (n : ℕ) (ks : List Kind) (more : List Event) → ReadAt (s.Rule r.Expression ∷ s.Rule r.MoreTemplate ∷ s.Token k.CloseTemplate ∷ s.Mark m.Template ∷ symbols) (n + 1) ks (Ok more)
+opened : (symbols : List Symbol) (n : ℕ) (ks : List Kind) (more : List Event) → ReadAt (s.Rule r.Unary ∷ s.Rule r.Operators ∷ s.Rule r.MoreTemplate ∷ s.Token k.CloseTemplate ∷ s.Mark m.Template ∷ symbols) (n + 1) ks (Ok more)
     → ReadAt (s.Rule r.Template ∷ symbols) n (k.OpenTemplate ∷ ks) (Ok (event m.OpenTemplate (n + 1) ∷ more))
 unfolding expressions statements modules
 opened symbols n ks more d = rule_read refl (token_read refl (noted d))
@@ -129,13 +129,13 @@ pub data Begins : Kind → Type 0 where
   by_name : Begins k.Name
   by_number : Begins k.Number
 
-separated : {kind : Kind} → Begins kind → (symbols : List Symbol) (n : ℕ) (ks : List Kind) (o : Outcome) → ReadAt (s.Rule r.Expression ∷ s.Rule r.MoreTemplate ∷ symbols) (n + 1) (kind ∷ ks) o
+separated : {kind : Kind} → Begins kind → (symbols : List Symbol) (n : ℕ) (ks : List Kind) (o : Outcome) → ReadAt (s.Rule r.Unary ∷ s.Rule r.Operators ∷ s.Rule r.MoreTemplate ∷ symbols) (n + 1) (kind ∷ ks) o
     → ReadAt (s.Rule r.MoreTemplate ∷ symbols) n (k.Comma ∷ kind ∷ ks) o
 unfolding expressions statements modules
 separated by_name symbols n ks o d = rule_read refl (token_read refl (rule_read refl d))
 separated by_number symbols n ks o d = rule_read refl (token_read refl (rule_read refl d))
 
-separated_tree : (t : Tree) (symbols : List Symbol) (n : ℕ) (ks : List Kind) (o : Outcome) → ReadAt (s.Rule r.Expression ∷ s.Rule r.MoreTemplate ∷ symbols) (n + 1) (kinds t ks) o
+separated_tree : (t : Tree) (symbols : List Symbol) (n : ℕ) (ks : List Kind) (o : Outcome) → ReadAt (s.Rule r.Unary ∷ s.Rule r.Operators ∷ s.Rule r.MoreTemplate ∷ symbols) (n + 1) (kinds t ks) o
     → ReadAt (s.Rule r.MoreTemplate ∷ symbols) n (k.Comma ∷ kinds t ks) o
 separated_tree (name w) symbols n ks o d = separated by_name symbols n ks o d
 separated_tree (digits v) symbols n ks o d = separated by_number symbols n ks o d
@@ -148,7 +148,7 @@ InList symbols = s.Rule r.MoreTemplate ∷ s.Token k.CloseTemplate ∷ s.Mark m.
 
 -- a tree is an expression
 pub parameter : (t : Tree) {kind : Kind} → Parts kind → (symbols : List Symbol) (n : ℕ) (ks : List Kind) (more : List Event) → ReadAt symbols (count t n) (kind ∷ ks) (Ok more)
-    → ReadAt (s.Rule r.Expression ∷ symbols) n (kinds t (kind ∷ ks)) (Ok (events t n (valued t n more)))
+    → ReadAt (s.Rule r.Unary ∷ s.Rule r.Operators ∷ symbols) n (kinds t (kind ∷ ks)) (Ok (events t n (valued t n more)))
 parameter (name w) {kind} part symbols n ks more d = named symbols n (kind ∷ ks) _ (alone part _ _ ks more (no_operator part symbols _ ks _ d))
 parameter (digits v) {kind} part symbols n ks more d = numbered symbols n (kind ∷ ks) more (rest_read part symbols _ ks _ d)
 parameter (one w a) {kind} part symbols n ks more d =

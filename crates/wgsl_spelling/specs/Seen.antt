@@ -16,7 +16,7 @@ abbrev pub chain_of : Chain → Parts
 chain_of c = record { leaf = c.leaf; layers = items_of c.layers }
 
 abbrev pub state_of : Reading → State
-state_of r = record { items = reverse (items_of r.items); chain = chain_of r.chain }
+state_of r = record { items = reverse r.items.items; chain = chain_of r.chain }
 
 -- The answer of the rules: a value, or a fault where they have none. Out of memory says nothing.
 abbrev pub Gives : {A B : Type 0} → (A → B) → Option B → Result A Stop → Type 0

@@ -51,18 +51,18 @@ with_listed text (listed_as.Around layer i) c = then (with_type text i c) (push 
 
 abbrev pub with_type_list : List ℕ → Chain → TemplateList × List Item → Option State
 with_type_list text c found =
-    then (listed_in text found.0) (λ l. map_value (state (item found.0.name.token v.Type ∷ found.1)) (with_listed text l c))
+    then (listed_in text found.0) (λ l. map_value (state (item found.0.name v.Type ∷ found.1)) (with_listed text l c))
 
 abbrev pub with_bitcast : List ℕ → Chain → TemplateList × List Item → Option State
 with_bitcast text c found =
-    map_value (λ f. state (item found.0.name.token (v.Function f) ∷ found.1) c) (bitcast text found.0.parameters)
+    map_value (λ f. state (item found.0.name (v.Function f) ∷ found.1) c) (bitcast text found.0.parameters)
 
 abbrev pub is_bitcast : List ℕ → Bool
 is_bitcast name = bytes_eq name (codes "bitcast")
 
 abbrev pub closed_list : List ℕ → Chain → TemplateList × List Item → Option State
 closed_list text c found =
-    cond (is_bitcast (word text found.0.name.token)) (with_bitcast text c found) (with_type_list text c found)
+    cond (is_bitcast (word text found.0.name)) (with_bitcast text c found) (with_type_list text c found)
 
 -- behind the `>` of a list
 abbrev pub closed : List ℕ → State → Option State

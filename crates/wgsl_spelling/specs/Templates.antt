@@ -46,7 +46,7 @@ is_open i = opens i.value
 
 abbrev pub list_behind : Parameters → List Item → Option (TemplateList × List Item)
 list_behind parameters [] = None
-list_behind parameters (name ∷ items) = Some (record { name = name; parameters = parameters }, items)
+list_behind parameters (name ∷ items) = Some (record { name = name.token; parameters = parameters }, items)
 
 abbrev pub third_list : Item → Item → Item → List Item → Option (TemplateList × List Item)
 third_list x y z [] = None
@@ -119,4 +119,4 @@ listed_by text p.AccelerationStructure parameters = map_value (λ f. listed.Leaf
 listed_by text other parameters = None
 
 abbrev pub listed_in : List ℕ → TemplateList → Option Listed
-listed_in text l = then (predeclared (word text l.name.token)) (λ named. listed_by text named l.parameters)
+listed_in text l = then (predeclared (word text l.name)) (λ named. listed_by text named l.parameters)

@@ -91,6 +91,7 @@ impl Chain {
     }
 
     /// Reads the type that an item stands for.
+    #[inline(always)]
     pub fn read(&mut self, text: &str, item: Item) -> Result<(), Stop>
         ensures { Becomes (with_type text.now item (chain_of self.old)) (chain_of self.new) result }
     {

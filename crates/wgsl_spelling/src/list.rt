@@ -2,19 +2,18 @@
 ghost use Rattle.std.specs.Prelude.{◌≡◌, MatchOption, None, Some, reverse};
 ghost use Rattle.wgsl_spelling.specs.Names.{access_named, format_named, sampled_named, space_named};
 ghost use Rattle.wgsl_spelling.specs.Seen.{Gives};
-ghost use Rattle.wgsl_spelling.specs.Stacks.{items_of};
 ghost use Rattle.wgsl_spelling.specs.Templates.{bitcast, bitcast_named, flag, is_open, last_list, layered, listed_in, memory, name, texture};
 
 use crate::chain::Leaf;
 use crate::fault::{Cause, Expected, Stop, stop_at};
 use crate::item::{Item, Value};
 use crate::predeclared::{LayerName, PredeclaredType, predeclared};
-use crate::stack::Stack;
 use crate::value::count;
 use crate::word::word;
 use std::str::FromStr;
 use wgsl_constants::call::Function;
 use wgsl_reader::kind::Kind;
+use wgsl_reader::token::Token;
 use wgsl_syntax::address::{AccessMode, AddressSpace};
 use wgsl_syntax::around::Around;
 use wgsl_syntax::attribute::AccelerationStructureFlags;
@@ -26,7 +25,7 @@ use wgsl_syntax::texture_name::{TextureName, TextureParameters};
 /// A name and the parameters in its template list.
 #[derive(Clone, Copy)]
 pub struct TemplateList {
-    pub name: Item,
+    pub name: Token,
     pub parameters: Parameters,
 }
 
@@ -47,22 +46,22 @@ pub enum Listed {
 }
 
 /// Takes the innermost list from the items; None if it has more than three parameters, or none.
-pub fn pop_list(items: &mut Stack<Item>) -> Option<TemplateList>
-    ensures { MatchOption result (last_list (reverse (items_of items.old)) ≡ None)
-        (λ list. last_list (reverse (items_of items.old)) ≡ Some (list, reverse (items_of items.new))) }
+pub fn pop_list(items: &mut Vec<Item>) -> Option<TemplateList>
+    ensures { MatchOption result (last_list (reverse items.old.items) ≡ None)
+        (λ list. last_list (reverse items.old.items) ≡ Some (list, reverse items.new.items)) }
 {
     let last = items.pop()?;
     let second = items.pop()?;
     if is_open(second) {
         return Some(TemplateList {
-            name: items.pop()?,
+            name: items.pop()?.token,
             parameters: Parameters::One(last),
         });
     }
     let third = items.pop()?;
     if is_open(third) {
         return Some(TemplateList {
-            name: items.pop()?,
+            name: items.pop()?.token,
             parameters: Parameters::Two(second, last),
         });
     }
@@ -70,7 +69,7 @@ pub fn pop_list(items: &mut Stack<Item>) -> Option<TemplateList>
         return None;
     }
     Some(TemplateList {
-        name: items.pop()?,
+        name: items.pop()?.token,
         parameters: Parameters::Three(third, second, last),
     })
 }
@@ -88,7 +87,7 @@ fn is_open(item: Item) -> bool
 pub fn meaning_of(text: &str, list: TemplateList) -> Result<Listed, Stop>
     ensures { Gives (λ l. l) (listed_in text.now list) result }
 {
-    let token = list.name.token;
+    let token = list.name;
     match predeclared(word(text, token)) {
         Some(PredeclaredType::Layer(layer)) => layered(text, layer, list),
         Some(PredeclaredType::Texture(name)) => {
@@ -131,7 +130,7 @@ fn layered(text: &str, layer: LayerName, list: TemplateList) -> Result<Listed, S
             let (space, of, access) = memory(text, list)?;
             Ok(Listed::Around(Around::Ref(space, access), of))
         }
-        _ => Err(stop_at(list.name.token.at, Cause::WrongParameterCount)),
+        _ => Err(stop_at(list.name.at, Cause::WrongParameterCount)),
     }
 }
 
@@ -149,7 +148,7 @@ fn memory(text: &str, list: TemplateList) -> Result<(AddressSpace, Item, AccessM
             let space = space_of(text, space)?;
             Ok((space, of, access_of(text, access)?))
         }
-        Parameters::One(_) => Err(stop_at(list.name.token.at, Cause::WrongParameterCount)),
+        Parameters::One(_) => Err(stop_at(list.name.at, Cause::WrongParameterCount)),
     }
 }
 
@@ -163,12 +162,12 @@ fn texture(text: &str, name: TextureName, list: TemplateList) -> Result<TextureT
             TextureParameters::Storage(format_of(text, format)?, access_of(text, access)?)
         }
         Parameters::Three(_, _, _) => {
-            return Err(stop_at(list.name.token.at, Cause::WrongParameterCount));
+            return Err(stop_at(list.name.at, Cause::WrongParameterCount));
         }
     };
     match name.with(parameters) {
         Some(texture) => Ok(texture),
-        None => Err(stop_at(list.name.token.at, Cause::WrongParameterCount)),
+        None => Err(stop_at(list.name.at, Cause::WrongParameterCount)),
     }
 }
 
@@ -177,12 +176,12 @@ pub fn bitcast(text: &str, list: TemplateList) -> Result<Function, Stop>
     ensures { Gives (λ f. f) (bitcast text.now list.parameters) result }
 {
     let Parameters::One(to) = list.parameters else {
-        return Err(stop_at(list.name.token.at, Cause::WrongParameterCount));
+        return Err(stop_at(list.name.at, Cause::WrongParameterCount));
     };
     match bitcast_named(name(text, to)) {
         Some(function) => Ok(function),
         None if predeclared(name(text, to)).is_some() => {
-            Err(stop_at(list.name.token.at, Cause::NotInteger))
+            Err(stop_at(list.name.at, Cause::NotInteger))
         }
         None => Err(stop_at(to.token.at, Cause::UnknownType)),
     }
@@ -202,7 +201,7 @@ fn flag(text: &str, list: TemplateList) -> Result<AccelerationStructureFlags, St
     ensures { Gives (λ found. found) (flag text.now list.parameters) result }
 {
     let Parameters::One(flag) = list.parameters else {
-        return Err(stop_at(list.name.token.at, Cause::WrongParameterCount));
+        return Err(stop_at(list.name.at, Cause::WrongParameterCount));
     };
     match AccelerationStructureFlags::from_str(name(text, flag)) {
         Ok(found) => Ok(found),

@@ -4,7 +4,9 @@ ghost use Rattle.wgsl_core.specs.View.{view};
 ghost use Rattle.wgsl_spelling.specs.Seen.{Becomes, Gives, IsFault, Takes, chain_of, state_of, type_found};
 ghost use Rattle.wgsl_spelling.specs.Spelled.{Spells, TokensSpell, behind, chain_of_events, closed, count_of_events, end, no_token, nothing, only, step, token_before, type_of_events, with_argument, with_binary, with_brackets, with_call, with_item, with_listed, with_member, with_open, with_unary};
 ghost use Rattle.wgsl_constants.specs.Literals.{then};
+ghost use Rattle.wgsl_spelling.specs.Chains.{with_type};
 ghost use Rattle.wgsl_spelling.specs.Items.{item};
+ghost use Rattle.wgsl_spelling.specs.declared.item.Value.TheVariants.{Name};
 ghost use Rattle.wgsl_spelling.specs.Values.{count};
 ghost use Rattle.wgsl_spelling.specs.Words.{word};
 
@@ -13,7 +15,6 @@ use crate::chain::Chain;
 use crate::fault::{Cause, Expected, Fault, Stop, stop_at};
 use crate::item::{Item, Value};
 use crate::list::{Listed, bitcast, meaning_of, pop_list};
-use crate::stack::Stack;
 use crate::value::{binary, count, in_brackets, literal, unary};
 use crate::word::word;
 use std::alloc::{AllocError, Global};
@@ -94,7 +95,25 @@ pub fn chain_of_events(
 ) -> Result<Chain, Stop>
     ensures { Gives chain_of (chain_of_events text.now tokens.now events.now) result }
 {
-    read_events(alloc, text, tokens, events)?.end(text)
+    match events {
+        [
+            Event {
+                mark: Mark::Name,
+                at,
+            },
+        ] => chain_of_name(alloc, text, token_before(tokens, *at)),
+        _ => read_events(alloc, text, tokens, events)?.end(text),
+    }
+}
+
+/// The type in parts that a name without a list stands for.
+fn chain_of_name(alloc: Global, text: &str, token: Token) -> Result<Chain, Stop>
+    ensures { Gives chain_of (with_type text.now (item token Name) nothing.chain) result }
+{
+    let mut chain = Chain::none(alloc);
+    let value = Value::Name;
+    chain.read(text, Item { token, value })?;
+    Ok(chain)
 }
 
 /// The number, at least 0, that events of a text say, or why they say none.
@@ -119,10 +138,7 @@ fn read_events(
     ensures { Gives state_of (behind text.now tokens.now nothing events.now) result }
 {
     let mut reading = Reading {
-        items: Stack {
-            below: Vec::with_capacity(alloc, events.len().saturating_sub(1))?,
-            last: None,
-        },
+        items: Vec::with_capacity(alloc, events.len().saturating_sub(1))?,
         chain: Chain::none(alloc),
     };
     for event in events {
@@ -134,7 +150,7 @@ fn read_events(
 /// What is read so far.
 #[derive(Drop)]
 struct Reading {
-    items: Stack<Item>,
+    items: Vec<Item>,
     chain: Chain,
 }
 
@@ -186,7 +202,7 @@ impl Reading {
         let Some(list) = pop_list(&mut self.items) else {
             return Err(stop_at(token.at, Cause::WrongParameterCount));
         };
-        let name = list.name.token;
+        let name = list.name;
         if word(text, name) == "bitcast" {
             let function = bitcast(text, list)?;
             return self.push(name, Value::Function(function));

@@ -55,7 +55,7 @@ pub static EXPRESSIONS: &[(Rule, &[Line])] = grammar! {
         ConstOperand => [ConstOperand (Type) {Constant} (Postfix)]
     }
     AfterValue {
-        OpenRound => [(Call) (Postfix)]
+        OpenRound => [OpenRound {Open} (Arguments) CloseRound {Call} (Postfix)]
         OpenTemplate => [(Template) (Call) (Postfix)]
         Period | OpenSquare => [{Value} (Postfix)]
         _ => [{Value}]
@@ -63,6 +63,8 @@ pub static EXPRESSIONS: &[(Rule, &[Line])] = grammar! {
     Expression { _ => [(Unary) (Operators)] }
     Operators {
         Comma | CloseRound | CloseTemplate | End | Semicolon => []
+        Star | Slash | Percent => [(Product) (Sum) (Comparison) (Logic)]
+        Plus | Minus => [(Sum) (Comparison) (Logic)]
         And => [(Ands)]
         Or => [(Ors)]
         Xor => [(Xors)]
