@@ -3,7 +3,5 @@ pub mod Operands
 pub mod AskedTokens
 pub mod Steps
 pub mod OneOutcome
-pub mod Total
 pub mod OneReply
 pub mod Scopes
-pub mod SomeReply

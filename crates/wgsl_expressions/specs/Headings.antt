@@ -25,8 +25,8 @@ abbrev pub attributes : List (Attribute × List ℕ)
 attributes = (Size, codes "size") ∷ (Align, codes "align") ∷ []
 
 abbrev pub with_attribute : Attribute → ℕ → Heading → Heading
-with_attribute Size n h = record { name = h.name; members = h.members; inside = h.inside; size = Some n; align = h.align; result = h.result }
-with_attribute Align n h = record { name = h.name; members = h.members; inside = h.inside; size = h.size; align = Some n; result = h.result }
+with_attribute Size n h = record h { size = Some n }
+with_attribute Align n h = record h { align = Some n }
 
 -- the number of an attribute is noted between its name and the end of its only argument
 abbrev pub Numbered : Source → List Event → Attribute → Next
@@ -47,13 +47,11 @@ Attributed s index items r = On (name_on items) (λ from. AttributedBy s (noted 
 
 -- one more member, with the attributes in front of it
 abbrev pub with_member : List ℕ → WgslType → ℕ → Heading → Heading
-with_member name t inside h = record {
-  name = h.name;
+with_member name t inside h = record h {
   members = h.members ++ record { name = name; ty = t; size = h.size; align = h.align } ∷ [];
   inside = h.inside + (1 + inside);
   size = None;
   align = None;
-  result = h.result;
 }
 
 -- at most 255 types are inside
@@ -69,7 +67,7 @@ Membered s scope index items r = On (name_on items) (λ from below. On (name_on 
     By (type_noted s scope (noted s from index)) (MemberIn (text_at s (first_count (noted s named from)))))) r
 
 abbrev pub with_result : WgslType → Heading → Heading
-with_result t h = record { name = h.name; members = h.members; inside = h.inside; size = h.size; align = h.align; result = Some t }
+with_result t h = record h { result = Some t }
 
 -- `-> T`
 abbrev pub Resulted : Source → Scope → ℕ → Next

@@ -9,13 +9,13 @@ use Rattle.wgsl_rules.specs.standard.Choice.{types_of}
 use Rattle.wgsl_forms.specs.Lists.{list_fits}
 use Rattle.wgsl_requests.specs.Calls.{WgslCall}
 use Rattle.wgsl_requests.specs.Requests.{WgslRequest, rank, common, unary, binary, size, offsets, layout, ctor, call, type_of, resolution_of, explanation_of, overloads_of, form_of, fit_of}
+use Rattle.wgsl_requests.proofs.OneAnswer.{one_form_type}
+use Rattle.wgsl_requests.proofs.OneOverloaded.{one_explanation, one_resolution, one_type}
 use Rattle.wgsl_laws.proofs.Calls.{a_call}
 use Rattle.wgsl_laws.proofs.Constructors.{a_constructor}
 use Rattle.wgsl_laws.proofs.Conversions.{a_rank, a_received}
-use Rattle.wgsl_laws.proofs.Forms.{some_form_type}
 use Rattle.wgsl_laws.proofs.Operators.{a_binary, a_unary}
 use Rattle.wgsl_laws.proofs.Sizes.{exact_alignment, exact_size}
-use Rattle.wgsl_laws.proofs.Standard.{a_resolution_of as some_resolution, a_type_of as some_type, an_explanation_of}
 use Rattle.wgsl_laws.proofs.Structs.{layout_or_cause, offsets_or_cause}
 
 abbrev pub Answered : WgslRequest → Type 0
@@ -39,7 +39,7 @@ of_layout rules name ms = elim (layout_or_cause rules ms) [
 
 some_explanation : (c : WgslCall) (unknown : Option (List ℕ)) → unknown_name c.callee ≡ unknown → Answered (explanation_of c)
 some_explanation c (Some name) is = (a_type_of c None, unknown_is name is)
-some_explanation c None is = let r = an_explanation_of c in (some_lines r.0, explanation_of_is r.0 is r.1)
+some_explanation c None is = let r = (one_explanation c).some tt in (some_lines r.0, explanation_of_is r.0 is r.1)
 
 pub some_answer : (request : WgslRequest) → Answered request
 some_answer (rank t u) = let w = a_rank t u in (a_number w.0, rank_is w.0 w.1)
@@ -51,9 +51,9 @@ some_answer (offsets rules name ms) = of_offsets rules name ms
 some_answer (layout rules name ms) = of_layout rules name ms
 some_answer (ctor c) = let r = a_constructor c in (a_type r.0, ctor_is r.0 r.1)
 some_answer (call c) = let r = a_call c in (a_value r.0, call_is r.0 r.1)
-some_answer (type_of c) = let r = some_type c in (a_type_of c r.0, type_of_is r.0 r.1)
-some_answer (resolution_of c) = let r = some_resolution c in (a_resolution_of c r.0, resolution_of_is r.0 r.1)
+some_answer (type_of c) = let r = (one_type c).some tt in (a_type_of c r.0, type_of_is r.0 r.1)
+some_answer (resolution_of c) = let r = (one_resolution c).some tt in (a_resolution_of c r.0, resolution_of_is r.0 r.1)
 some_answer (explanation_of c) = some_explanation c (unknown_name c.callee) refl
 some_answer (overloads_of name) = (some_lines (lines_named name), overloads_of_are (lines_named name) refl)
-some_answer (form_of f) = let r = some_form_type f in (a_form_type r.0, form_is r.0 r.1)
+some_answer (form_of f) = let r = (one_form_type f).some tt in (a_form_type r.0, form_is r.0 r.1)
 some_answer (fit_of taker xs ts) = let r = list_fits taker ts (types_of xs) in (a_fit r, fit_is r refl)

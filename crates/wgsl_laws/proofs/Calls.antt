@@ -1,6 +1,7 @@
 -- What a built-in function returns, or the refusal of its call.
 use Rattle.std.proofs.Common.{◌≡◌, List, [], ◌∷◌, Option, Some, None, Result, Ok, Err, codes, option_map, refl, inl, inr}
-use Rattle.std.specs.Prelude.{Bool, true, false, IsSome}
+use Rattle.std.specs.Prelude.{IsSome}
+use Rattle.std.proofs.Math.Bool.{Bool-discrete}
 use Rattle.std.specs.Option.{option_and_then}
 use native.Mathlib.Decide.{ℕ_discrete}
 use Rattle.wgsl_syntax.specs.declared.call.Condition.{Condition}
@@ -29,7 +30,7 @@ use Rattle.wgsl_rules.specs.templates.Templates.{IsBitcastTemplate}
 use Rattle.wgsl_rules.proofs.conversion.Commons.{some_common}
 use Rattle.wgsl_rules.proofs.types.Equality.{both}
 use Rattle.wgsl_laws.proofs.Constructors.{a_template}
-use Rattle.wgsl_laws.proofs.Deciders.{dec_numeric_or_vector}
+use Rattle.wgsl_laws.proofs.Deciders.{all_three, dec_numeric_or_vector}
 use Rattle.wgsl_laws.proofs.Shapes.{dec_fraction, dec_is}
 
 -- Whether a row takes a call
@@ -48,14 +49,9 @@ dec_equal_lengths : (t u : WgslType) → Dec (HaveEqualLengths t u)
 dec_equal_lengths (within (vec_of n) t) (within (vec_of m) u) = ℕ_discrete n m
 dec_equal_lengths t u = no (λ h. h)
 
-same_bool : (a b : Bool) → Dec (a ≡ b)
-same_bool true true = yes refl
-same_bool false false = yes refl
-same_bool a b = no (λ e. absurd (cc e))
-
 dec_holds : (k : Condition) (ts : List WgslType) → Dec (Holds k ts)
 dec_holds EqualLengths (t ∷ u ∷ ts) = dec_equal_lengths t u
-dec_holds SameAbstractness (t ∷ u ∷ ts) = same_bool (is_abstract t) (is_abstract u)
+dec_holds SameAbstractness (t ∷ u ∷ ts) = Bool-discrete (is_abstract t) (is_abstract u)
 dec_holds k ts = no (λ h. h)
 
 dec_no_template : (template : Option (List Parameter)) → Dec (template ≡ None)
@@ -65,12 +61,6 @@ dec_no_template (Some ps) = no (λ e. absurd (cc e))
 dec_template : (template : Option (List Parameter)) → Dec (IsSome template)
 dec_template None = no (λ h. absurd (cc h))
 dec_template (Some ps) = yes refl
-
-all_three : {A B C : Type 0} → Dec A → Dec B → Dec C → Dec (A × B × C)
-all_three (yes a) (yes b) (yes c) = yes (a, b, c)
-all_three (no n) b c = no (λ h. n h.0)
-all_three (yes a) (no n) c = no (λ h. n h.1)
-all_three (yes a) (yes b) (no n) = no (λ h. n h.2)
 
 dec_takes : (r : Row) (c : Signature) → Dec (Fits r c)
 dec_takes (Takes ss o) c = both (dec_no_template c.template) (dec_all_are (shapes_of ss) c.arguments)

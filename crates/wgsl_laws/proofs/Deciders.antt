@@ -6,6 +6,7 @@ use Rattle.wgsl_syntax.specs.declared.scalar.Scalar.TheVariants.{Bool, AbstractI
 use Rattle.wgsl_rules.specs.types.Types.{vec_of, WgslType, scalar, within}
 use Rattle.wgsl_rules.specs.types.Kinds.{IsInteger, IsFloat, IsNumeric, IsIntegerOrVector, IsNumericOrVector, IsFloatScalar, IsScalar, IsScalarOrVector}
 use Rattle.wgsl_rules.specs.conversion.Concrete.{IsAbstract}
+use Rattle.wgsl_rules.proofs.types.Equality.{both, by}
 
 pub dec_integer : (s : Scalar) → Dec (IsInteger s)
 dec_integer AbstractInt = yes tt
@@ -48,6 +49,9 @@ pub dec_scalar_or_vector : (t : WgslType) → Dec (IsScalarOrVector t)
 dec_scalar_or_vector (scalar s) = yes tt
 dec_scalar_or_vector (within (vec_of n) t) = yes tt
 dec_scalar_or_vector t = no (λ h. h)
+
+pub all_three : {A B C : Type 0} → Dec A → Dec B → Dec C → Dec (A × B × C)
+all_three a b c = by (λ h. (h.0, h.1.0, h.1.1)) (λ h. (h.0, (h.1, h.2))) (both a (both b c))
 
 -- the negation of a decidable fact
 pub dec_not : {P : Type 0} → Dec P → Dec (¬ P)

@@ -6,11 +6,6 @@ pub mod Operators
 pub mod Constructors
 pub mod Shapes
 pub mod Calls
-pub mod Overloads
-pub mod Notes
-pub mod Standard
-pub mod Forms
 pub mod Answered
 pub mod Replied
 pub mod Printed
-pub mod ExpressionsFound

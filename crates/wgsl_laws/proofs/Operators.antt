@@ -20,7 +20,7 @@ use Rattle.wgsl_rules.proofs.operators.Groups.{Fits, IsShifted, elements}
 use Rattle.wgsl_rules.proofs.operators.Rows.{unfit, elements_apart, not_compared, compared_apart, not_logical, no_bits, bits_apart, not_shifted}
 use Rattle.wgsl_rules.proofs.operators.Unary.{not_negated, not_opposed, not_complemented, no_handle, not_addressed, not_pointed}
 use Rattle.wgsl_rules.proofs.types.Equality.{both, same_type}
-use Rattle.wgsl_laws.proofs.Deciders.{dec_integer, dec_integer_or_vector, either}
+use Rattle.wgsl_laws.proofs.Deciders.{all_three, dec_integer, dec_integer_or_vector, either}
 
 -- Unary operators
 
@@ -64,13 +64,7 @@ dec_or_and BitwiseAnd = yes tt
 dec_or_and o = no (λ h. h)
 
 dec_matrices : (o : BinaryOperator) (c r d s : ℕ) → Dec ((IsSum o × (c ≡ d) × (r ≡ s)) ⊎ ((o ≡ Multiplication) × (c ≡ s)))
-dec_matrices o c r d s = either (sum (dec_sum o) (ℕ_discrete c d) (ℕ_discrete r s)) (both (dec_product o) (ℕ_discrete c s))
-  where
-    sum : {A B C : Type 0} → Dec A → Dec B → Dec C → Dec (A × B × C)
-    sum (yes a) (yes b) (yes c) = yes (a, b, c)
-    sum (no n) b c = no (λ h. n h.0)
-    sum (yes a) (no n) c = no (λ h. n h.1)
-    sum (yes a) (yes b) (no n) = no (λ h. n h.2)
+dec_matrices o c r d s = either (all_three (dec_sum o) (ℕ_discrete c d) (ℕ_discrete r s)) (both (dec_product o) (ℕ_discrete c s))
 
 dec_fits : (o : BinaryOperator) (a b : WgslType) → Dec (Fits o a b)
 dec_fits o (scalar s) (scalar t) = yes tt
@@ -149,10 +143,7 @@ by_bits o h a b = let f = some_common a b in common f.0 f.1
 
 dec_shifted : (a b : WgslType) → Dec (IsShifted a b)
 dec_shifted (scalar i) t = both (dec_integer i) (dec_converts t (scalar U32))
-dec_shifted (within (vec_of n) (scalar i)) (within (vec_of m) t) = elim (both (ℕ_discrete n m) (both (dec_integer i) (dec_converts t (scalar U32)))) [
-  | yes h ↦ yes (h.0, h.1.0, h.1.1)
-  | no n ↦ no (λ h. n (h.0, (h.1, h.2)))
-]
+dec_shifted (within (vec_of n) (scalar i)) (within (vec_of m) t) = all_three (ℕ_discrete n m) (dec_integer i) (dec_converts t (scalar U32))
 dec_shifted a b = no (λ h. h)
 
 shifted_row : (o : BinaryOperator) → IsShift o → (a b : WgslType) → IsShifted a b → Found o a b

@@ -6,11 +6,12 @@ use Rattle.wgsl_lines.proofs.OneText.{one_text}
 use Rattle.wgsl_requests.specs.Replies.{ReplyText}
 use Rattle.wgsl_replies.specs.Replies.{IsReplyToLine}
 use Rattle.wgsl_syntax.specs.declared.rules.RuleSet.{RuleSet}
-use Rattle.wgsl_laws.proofs.Replied.{some_line_reply}
+use Rattle.wgsl_replies.proofs.OneReply.{one_line_reply}
+use Rattle.wgsl_laws.proofs.Answered.{some_answer}
 
 some_replies : (rules : RuleSet) (lines : List (List ℕ)) → (replies : List ReplyText) × AllZip (IsReplyToLine rules) lines replies
 some_replies rules [] = ([], tt)
-some_replies rules (line ∷ lines) = let r = some_line_reply rules line in let rs = some_replies rules lines in (r.0 ∷ rs.0, (r.1, rs.1))
+some_replies rules (line ∷ lines) = let r = (one_line_reply rules line).some some_answer in let rs = some_replies rules lines in (r.0 ∷ rs.0, (r.1, rs.1))
 
 -- exactly one text, with one answer to whether every line is readable
 pub only_text : (rules : RuleSet) (input : List ℕ) → (text : List ℕ) × (readable : Bool) × Prints rules input text readable

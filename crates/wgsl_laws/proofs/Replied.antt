@@ -1,34 +1,25 @@
--- Any bytes have a reply, as a line and as a request.
-use Rattle.std.proofs.Common.{◌≡◌, ℕ, Bool, true, false, List, [], ◌∷◌, refl, inl, inr}
-use Rattle.wgsl_requests.specs.Replies.{ReplyText, has_line_feed, nothing, unreadable}
+-- A text has exactly one outcome, and the bytes of a request exactly one reply.
+use Rattle.std.proofs.Common.{◌≡◌, ℕ, List, Option}
+use Rattle.wgsl_requests.specs.Replies.{ReplyText}
+use Rattle.wgsl_requests.proofs.HasOne.{HasOne}
+use Rattle.wgsl_requests.proofs.OneReply.{EachAnswered}
 use Rattle.wgsl_syntax.specs.declared.rules.RuleSet.{RuleSet}
-use Rattle.wgsl_syntax.specs.declared.rules.RuleSet.TheVariants.{Ported, Standard}
-use Rattle.wgsl_words.specs.Replies.{IsReplyToWords}
-use Rattle.wgsl_words.specs.Requests.{request_of}
-use Rattle.wgsl_words.specs.Words.{words_of}
-use Rattle.wgsl_expressions.proofs.SomeReply.{dec_line, some_reply_of, some_standard_reply}
-use Rattle.wgsl_replies.specs.Replies.{IsReplyTo, IsReplyToLine}
-use Rattle.wgsl_replies.proofs.OneReply.{one_reply}
+use Rattle.wgsl_expressions.specs.Outcomes.{Outcome}
+use Rattle.wgsl_expressions.specs.Scopes.{Scope}
+use Rattle.wgsl_expressions.specs.Typing.{IsTyped}
+use Rattle.wgsl_expressions.proofs.OneOutcome.{one_outcome}
+use Rattle.wgsl_replies.specs.Replies.{IsReplyTo}
+use Rattle.wgsl_replies.proofs.OneReply.{one_to_request}
 use Rattle.wgsl_laws.proofs.Answered.{some_answer}
 
-some_reply_to_words : (words : List (List ℕ)) → (reply : ReplyText) × IsReplyToWords words reply
-some_reply_to_words [] = (nothing, refl)
-some_reply_to_words (word ∷ words) = some_reply_of some_answer (request_of (word ∷ words))
+abbrev Only : {A : Type 0} → (A → Type 0) → Type 0
+Only {A} R = (r : A) × R r × ((other : A) → R other → other ≡ r)
 
-pub some_line_reply : (rules : RuleSet) (bytes : List ℕ) → (reply : ReplyText) × IsReplyToLine rules bytes reply
-some_line_reply Ported bytes = elim (dec_line bytes) [
-  | no other ↦ (unreadable, inr (other, refl))
-  | yes is ↦ let r = some_reply_to_words (words_of bytes) in (r.0, inl (is, r.1))
-]
-some_line_reply Standard bytes = some_standard_reply some_answer bytes
+only : {A : Type 0} {R : A → Type 0} → HasOne EachAnswered R → Only R
+only one = let r = one.some some_answer in (r.0, r.1, λ other is. one.once other r.0 is r.1)
 
-some_reply : (rules : RuleSet) (bytes : List ℕ) → (reply : ReplyText) × IsReplyTo rules bytes reply
-some_reply rules bytes = test (has_line_feed bytes) refl
-  where
-    test : (feed : Bool) → has_line_feed bytes ≡ feed → (reply : ReplyText) × IsReplyTo rules bytes reply
-    test true found = (unreadable, inl (found, refl))
-    test false none = let r = some_line_reply rules bytes in (r.0, inr (none, r.1))
+pub only_outcome : (scope : Scope) (text : List ℕ) → (r : Option Outcome) × IsTyped scope text r × ((other : Option Outcome) → IsTyped scope text other → other ≡ r)
+only_outcome scope text = only (one_outcome scope text)
 
--- exactly one
 pub only_reply : (rules : RuleSet) (bytes : List ℕ) → (reply : ReplyText) × IsReplyTo rules bytes reply × ((other : ReplyText) → IsReplyTo rules bytes other → other ≡ reply)
-only_reply rules bytes = let r = some_reply rules bytes in (r.0, r.1, λ other is. one_reply rules bytes other r.0 is r.1)
+only_reply rules bytes = only (one_to_request rules bytes)

@@ -60,14 +60,15 @@ dec_scalar_or_vector_of k t = no (λ h. h)
 
 -- Fractions
 
+-- it is this value, or another
+or_next : {A : Type 0} {P : A → Type 0} (x : A) → Dec (P x) → (¬ P x → Dec ((y : A) × P y)) → Dec ((y : A) × P y)
+or_next x (yes h) rest = yes (x, h)
+or_next x (no n) rest = rest n
+
 a_precision : {P : ResultPrecision → Type 0} → ((p : ResultPrecision) → Dec (P p)) → Dec ((p : ResultPrecision) × P p)
-a_precision {P} dec = elim (dec precision.Abstract) [
-  | yes h ↦ yes (precision.Abstract, h)
-  | no a ↦ elim (dec precision.F32) [
-    | yes h ↦ yes (precision.F32, h)
-    | no b ↦ elim (dec precision.F16) [ yes h ↦ yes (precision.F16, h) | no c ↦ no (λ h. none a b c h.0 h.1) ]
-  ]
-]
+a_precision {P} dec =
+    or_next {P = P} precision.Abstract (dec precision.Abstract) (λ a. or_next {P = P} precision.F32 (dec precision.F32) (λ b. or_next {P = P} precision.F16 (dec precision.F16)
+    (λ c. no (λ h. none a b c h.0 h.1))))
   where
     none : ¬ P precision.Abstract → ¬ P precision.F32 → ¬ P precision.F16 → (p : ResultPrecision) → ¬ P p
     none a b c precision.Abstract h = a h
@@ -75,16 +76,9 @@ a_precision {P} dec = elim (dec precision.Abstract) [
     none a b c precision.F16 h = c h
 
 a_shape : {P : ResultShape → Type 0} → ((s : ResultShape) → Dec (P s)) → Dec ((s : ResultShape) × P s)
-a_shape {P} dec = elim (dec shape.Scalar) [
-  | yes h ↦ yes (shape.Scalar, h)
-  | no a ↦ elim (dec shape.Vec2) [
-    | yes h ↦ yes (shape.Vec2, h)
-    | no b ↦ elim (dec shape.Vec3) [
-      | yes h ↦ yes (shape.Vec3, h)
-      | no c ↦ elim (dec shape.Vec4) [ yes h ↦ yes (shape.Vec4, h) | no d ↦ no (λ h. none a b c d h.0 h.1) ]
-    ]
-  ]
-]
+a_shape {P} dec =
+    or_next {P = P} shape.Scalar (dec shape.Scalar) (λ a. or_next {P = P} shape.Vec2 (dec shape.Vec2) (λ b. or_next {P = P} shape.Vec3 (dec shape.Vec3)
+    (λ c. or_next {P = P} shape.Vec4 (dec shape.Vec4) (λ d. no (λ h. none a b c d h.0 h.1)))))
   where
     none : ¬ P shape.Scalar → ¬ P shape.Vec2 → ¬ P shape.Vec3 → ¬ P shape.Vec4 → (s : ResultShape) → ¬ P s
     none a b c d shape.Scalar h = a h

@@ -17,6 +17,7 @@ pub fn every_request_has_an_answer()
 {}
 
 /// A request has at most one answer.
+#[tactic(auto, using(wgsl_requests::proofs::OneAnswer::answer_once))]
 pub fn no_request_has_two_answers()
     ensures { (request : WgslRequest) (a b : WgslAnswer)
         → Answers request a → Answers request b → a ≡ b }
@@ -24,7 +25,7 @@ pub fn no_request_has_two_answers()
 
 /// With the names of a scope, a text has exactly one outcome: it is no expression, or one that has a type or a first part
 /// without one.
-#[tactic(auto, using(crate::proofs::ExpressionsFound::only_outcome))]
+#[tactic(auto, using(crate::proofs::Replied::only_outcome))]
 pub fn every_text_has_one_outcome()
     ensures { (scope : Scope) (text : List ℕ) → (r : Option Outcome) × IsTyped scope text r
         × ((other : Option Outcome) → IsTyped scope text other → other ≡ r) }

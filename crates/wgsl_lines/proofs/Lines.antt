@@ -10,11 +10,8 @@ use Rattle.wgsl_lines.specs.Session.{Ends}
 abbrev pub NoLineFeed : List ℕ → Type 0
 NoLineFeed bytes = All (λ byte. byte ≢ 10) bytes
 
-other : (byte : ℕ) → byte ≢ 10 → nat_eq byte 10 ≡ false
-other byte distinct = ne_eqb byte 10 distinct
-
 head : (byte : ℕ) (bytes : List ℕ) → NoLineFeed (byte ∷ bytes) → nat_eq byte 10 ≡ false
-head byte bytes all = other byte (All-head (λ b. b ≢ 10) byte bytes all)
+head byte bytes all = ne_eqb byte 10 (All-head (λ b. b ≢ 10) byte bytes all)
 
 tail : (byte : ℕ) (bytes : List ℕ) → NoLineFeed (byte ∷ bytes) → NoLineFeed bytes
 tail byte bytes all = All-tail (λ b. b ≢ 10) byte bytes all

@@ -22,7 +22,7 @@ module _ (rules : RuleSet) where
   more_replies (line ∷ first) others (r ∷ rs) [] p q = absurd q
   more_replies (line ∷ first) others (r ∷ rs) (s ∷ ss) p q =
       let after = more_replies first others rs ss p.1 q.1 in
-      (after.0, ap (λ x. x ∷ ss) (one_line_reply rules line s r q.0 p.0) ∙ ap (λ xs. r ∷ xs) after.1)
+      (after.0, ap (λ x. x ∷ ss) ((one_line_reply rules line).once s r q.0 p.0) ∙ ap (λ xs. r ∷ xs) after.1)
 
   one_replies : (lines : List (List ℕ)) (rs ss : List ReplyText) → AllZip (IsReplyToLine rules) lines rs → AllZip (IsReplyToLine rules) lines ss → rs ≡ ss
   one_replies [] [] [] p q = refl
@@ -30,7 +30,7 @@ module _ (rules : RuleSet) where
   one_replies [] (r ∷ rs) ss p q = absurd p
   one_replies (line ∷ lines) [] ss p q = absurd p
   one_replies (line ∷ lines) (r ∷ rs) [] p q = absurd q
-  one_replies (line ∷ lines) (r ∷ rs) (s ∷ ss) p q = ap (λ x. x ∷ rs) (one_line_reply rules line r s p.0 q.0) ∙ ap (λ xs. s ∷ xs) (one_replies lines rs ss p.1 q.1)
+  one_replies (line ∷ lines) (r ∷ rs) (s ∷ ss) p q = ap (λ x. x ∷ rs) ((one_line_reply rules line).once r s p.0 q.0) ∙ ap (λ xs. s ∷ xs) (one_replies lines rs ss p.1 q.1)
 
   pub one_text : (input a b : List ℕ) (x y : Bool) → Prints rules input a x → Prints rules input b y → (a ≡ b) × (x ≡ y)
   one_text input a b x y p q =

@@ -25,7 +25,7 @@ module _ (rules : RuleSet) where
           let long : 4096 < length line = leb-false (length line) 4096 e in
           let whole : 4096 < length (line ++ more) = omega (arith, long, length-append line more) in
           let cut : 4096 < length (take 4097 line ++ more) = omega (arith, long, length-take 4097 line, length-append (take 4097 line) more) in
-          subst (IsReplyToLine rules (line ++ more)) (sym (one_line_reply rules (take 4097 line ++ more) reply unreadable is (long_line rules (take 4097 line ++ more) cut))) (long_line rules (line ++ more) whole)
+          subst (IsReplyToLine rules (line ++ more)) (sym ((one_line_reply rules (take 4097 line ++ more)).once reply unreadable is (long_line rules (take 4097 line ++ more) cut))) (long_line rules (line ++ more) whole)
 
   -- of a line the first 4097 bytes decide the reply
   pub of_cut : (line : List ℕ) (reply : ReplyText) → IsReplyToLine rules (take 4097 line) reply → IsReplyToLine rules line reply

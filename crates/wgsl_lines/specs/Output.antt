@@ -1,6 +1,5 @@
 -- What a program prints for an input, by a set of rules.
-use Rattle.std.specs.Prelude.{◌≡◌, ◌≢◌, ◌+◌, ◌-◌, ◌^◌, ◌++◌, ℕ, min, nat_eq, decimal, codes}
-use Rattle.std.specs.Prelude.{Bool, true, false, List, [], ◌∷◌}
+use Rattle.std.specs.Prelude.{◌≡◌, ◌≢◌, ◌+◌, ◌-◌, ◌^◌, ◌++◌, ℕ, min, nat_eq, decimal, codes, Bool, true, false, List, [], ◌∷◌}
 use Rattle.std.specs.Io.{StartsWith}
 use Rattle.std.specs.List.{AllZip, list_all}
 use Rattle.wgsl_requests.specs.Replies.{ReplyText, nothing, answer, unreadable}

@@ -1,6 +1,5 @@
 -- What stands between the input and the answers.
-use Rattle.std.specs.Prelude.{◌≡◌, ◌≢◌, ◌++◌, ◌&&◌, ℕ, Bool, true, List, [], ◌∷◌, All, Option, take}
-use Rattle.std.specs.Prelude.{string_bytes}
+use Rattle.std.specs.Prelude.{◌≡◌, ◌≢◌, ◌++◌, ◌&&◌, ℕ, Bool, true, List, [], ◌∷◌, All, Option, take, string_bytes}
 use Rattle.std.specs.Io.KnownBytes.{Appends}
 use Rattle.std.specs.List.{AllZip, list_all}
 use Rattle.wgsl_requests.specs.Replies.{ReplyText, nothing, answer, unreadable}
@@ -10,8 +9,7 @@ use Rattle.wgsl_syntax.specs.declared.rules.RuleSet.{RuleSet}
 use Rattle.wgsl_requests.specs.declared.reply.ReplyKind.TheVariants as k
 use Rattle.wgsl_lines.specs.declared.run.RunError.{RunError}
 use Rattle.wgsl_lines.specs.declared.run.Session.{Session}
-use Rattle.wgsl_lines.specs.Output.{is_readable, lines_of, next_number, printed, printed_from}
-use Rattle.wgsl_lines.specs.Output.{Prints, PrintsUntil}
+use Rattle.wgsl_lines.specs.Output.{is_readable, lines_of, next_number, printed, printed_from, Prints, PrintsUntil}
 
 -- a reply of this kind, if this text was written for it
 abbrev pub reply_of_kind : {W : Type 0} → ReplyKind W → List ℕ → ReplyText

@@ -1,5 +1,5 @@
 -- A request has at most one answer.
-use Rattle.std.proofs.Common.{◌≡◌, ℕ, List, Option, Some, None, Result, refl, sym, ap, ◌∙◌}
+use Rattle.std.proofs.Common.{◌≡◌, ℕ, List, Option, Some, None, refl, sym, ap, ◌∙◌}
 use Rattle.wgsl_syntax.specs.declared.rules.RuleSet.{RuleSet}
 use Rattle.wgsl_rules.specs.types.Types.{WgslType, Members}
 use Rattle.wgsl_rules.specs.conversion.Conversion.{Converts}
@@ -15,9 +15,9 @@ use Rattle.wgsl_requests.specs.Answers.{Answers, WgslAnswer, WgslLayout, IsRecei
 use Rattle.wgsl_requests.specs.Forms.{WgslForm, IsFormType, member_of, index_of, load_of, declaration_of, override_of, assignment_of, increment_of, discard_of, construct_of, switch_of, address_of, indirection_of, array_of, typed_array_of, variable_of, initialized_of}
 use Rattle.wgsl_requests.specs.Requests.{WgslRequest}
 use Rattle.wgsl_forms.specs.Assign.{operator_of}
-use Rattle.wgsl_forms.specs.Refusals.{Refusal}
 use Rattle.wgsl_forms.proofs.OnlyAnswers.{arrays, assignments}
-use Rattle.wgsl_requests.proofs.OneOverloaded.{explanation_once, resolution_once, type_once}
+use Rattle.wgsl_requests.proofs.HasOne.{HasOne, known}
+use Rattle.wgsl_requests.proofs.OneOverloaded.{one_explanation, one_resolution, one_type}
 
 -- at most one number is exactly that
 one_number : (P : ℕ → Type 0) (v w : Option ℕ) → IsExactly v P → IsExactly w P → v ≡ w
@@ -45,23 +45,26 @@ one_layout rules ms (Some k) None f g = absurd (never_both rules ms k.size f.siz
 one_layout rules ms None (Some l) f g = absurd (never_both rules ms l.size g.sized f)
 one_layout rules ms None None f g = refl
 
-one_form_type : (f : WgslForm) (r s : Result WgslType Refusal) → IsFormType f r → IsFormType f s → r ≡ s
-one_form_type (member_of x name) r s h k = h ∙ sym k
-one_form_type (index_of x i) r s h k = h ∙ sym k
-one_form_type (load_of x) r s h k = h ∙ sym k
-one_form_type (declaration_of d x t) r s h k = h ∙ sym k
-one_form_type (override_of t) r s h k = h ∙ sym k
-one_form_type (assignment_of o x y) r s h k = let one = (assignments (operator_of o) x.of_type y).2 in one r h ∙ sym (one s k)
-one_form_type (increment_of x) r s h k = h ∙ sym k
-one_form_type (discard_of x) r s h k = h ∙ sym k
-one_form_type (construct_of t xs) r s h k = h ∙ sym k
-one_form_type (switch_of x ys) r s h k = h ∙ sym k
-one_form_type (address_of x c) r s h k = h ∙ sym k
-one_form_type (indirection_of x) r s h k = h ∙ sym k
-one_form_type (array_of xs) r s h k = let one = (arrays (types_of xs)).2 in one r h ∙ sym (one s k)
-one_form_type (typed_array_of t n xs) r s h k = h ∙ sym k
-one_form_type (variable_of m a t) r s h k = h ∙ sym k
-one_form_type (initialized_of m a x t) r s h k = h ∙ sym k
+only : {A : Type 0} {R : A → Type 0} → (r : A) × R r × ((s : A) → R s → s ≡ r) → HasOne (Unit {0}) R
+only one = record { once = λ q r f g. one.2 q f ∙ sym (one.2 r g); some = λ _. (one.0, one.1) }
+
+pub one_form_type : (f : WgslForm) → HasOne (Unit {0}) (IsFormType f)
+one_form_type (member_of x name) = known _
+one_form_type (index_of x i) = known _
+one_form_type (load_of x) = known _
+one_form_type (declaration_of d x t) = known _
+one_form_type (override_of t) = known _
+one_form_type (assignment_of o x y) = only (assignments (operator_of o) x.of_type y)
+one_form_type (increment_of x) = known _
+one_form_type (discard_of x) = known _
+one_form_type (construct_of t xs) = known _
+one_form_type (switch_of x ys) = known _
+one_form_type (address_of x c) = known _
+one_form_type (indirection_of x) = known _
+one_form_type (array_of xs) = only (arrays (types_of xs))
+one_form_type (typed_array_of t n xs) = known _
+one_form_type (variable_of m a t) = known _
+one_form_type (initialized_of m a x t) = known _
 
 -- whatever the request
 same_answer : {request : WgslRequest} {a b : WgslAnswer} → Answers request a → Answers request b → a ≡ b
@@ -74,14 +77,14 @@ same_answer (offsets_are {rules} {ms} o f) (offsets_are p g) = ap some_offsets (
 same_answer (layout_is {rules} {name} {ms} k f) (layout_is l g) = ap (a_layout name ms) (one_layout rules ms k l f g)
 same_answer (ctor_is {c} r f) (ctor_is s g) = ap a_type (constructor_answer_once c r s f g)
 same_answer (call_is {c} r f) (call_is s g) = ap a_value (call_answer_once c r s f g)
-same_answer (type_of_is {c} r f) (type_of_is s g) = ap (a_type_of c) (type_once c r s f g)
-same_answer (resolution_of_is {c} r f) (resolution_of_is s g) = ap (a_resolution_of c) (resolution_once c r s f g)
-same_answer (explanation_of_is {c} r is f) (explanation_of_is s has g) = ap some_lines (explanation_once c r s f g)
+same_answer (type_of_is {c} r f) (type_of_is s g) = ap (a_type_of c) ((one_type c).once r s f g)
+same_answer (resolution_of_is {c} r f) (resolution_of_is s g) = ap (a_resolution_of c) ((one_resolution c).once r s f g)
+same_answer (explanation_of_is {c} r is f) (explanation_of_is s has g) = ap some_lines ((one_explanation c).once r s f g)
 same_answer (explanation_of_is {c} r is f) (unknown_is name has) = absurd (cc (is, has))
 same_answer (unknown_is {c} name is) (explanation_of_is s has g) = absurd (cc (is, has))
 same_answer (unknown_is {c} name is) (unknown_is other has) = refl
 same_answer (overloads_of_are r f) (overloads_of_are s g) = ap some_lines (f ∙ sym g)
-same_answer (form_is {f} r h) (form_is s k) = ap a_form_type (one_form_type f r s h k)
+same_answer (form_is {f} r h) (form_is s k) = ap a_form_type ((one_form_type f).once r s h k)
 same_answer (fit_is r f) (fit_is s g) = ap a_fit (f ∙ sym g)
 
 pub answer_once : (request : WgslRequest) (a b : WgslAnswer) → Answers request a → Answers request b → a ≡ b

@@ -1,17 +1,51 @@
--- A line has at most one reply.
-use Rattle.std.proofs.Common.{◌≡◌, ℕ, List, Option, Some, None, ap, sym, inl, inr, ◌∙◌}
-use Rattle.wgsl_requests.specs.Replies.{IsReplyOf, OfLine, ReplyText, answer}
+-- A request has one answer, and what was read of a line one reply, if every request has an answer.
+use Rattle.std.proofs.Common.{◌≡◌, ◌∙◌, ℕ, List, Option, Some, None, ap, arith, inl, inr, length, refl, sym}
+use Rattle.std.specs.Str.{is_utf8}
+use Rattle.std.proofs.lemmas.Bool.{cases_lt}
+use Rattle.std.proofs.lemmas.Str.{IsUtf8-from_is_utf8, is_utf8-from_IsUtf8}
+use Rattle.wgsl_requests.specs.Answers.{Answers, WgslAnswer}
+use Rattle.wgsl_requests.specs.Replies.{IsLineOfText, IsReplyOf, OfLine, ReplyText, answer, unreadable}
 use Rattle.wgsl_requests.specs.Requests.{WgslRequest}
+use Rattle.wgsl_requests.specs.Texts.{answer_text, text_kind}
+use Rattle.wgsl_requests.proofs.HasOne.{HasOne, decided, known}
+use Rattle.wgsl_requests.proofs.OneAnswer.{answer_once}
 use Rattle.wgsl_requests.proofs.OneText.{one_text}
 
-pub one_reply_of : (request : Option WgslRequest) (a b : ReplyText) → IsReplyOf request a → IsReplyOf request b → a ≡ b
-one_reply_of (Some request) a b f g =
-    let same = one_text request f.0 g.0 f.1 g.1 f.2 g.2 in f.3 ∙ (ap (λ kind. answer kind f.1) same.0 ∙ (ap (λ text. answer g.0 text) same.1 ∙ sym g.3))
-one_reply_of None a b f g = f ∙ sym g
+abbrev pub EachAnswered : Type 0
+EachAnswered = (request : WgslRequest) → (a : WgslAnswer) × Answers request a
 
--- if at most one reply is held
-pub one_of_line : (Holds : ReplyText → Type 0) → ((a b : ReplyText) → Holds a → Holds b → a ≡ b) → (bytes : List ℕ) (a b : ReplyText) → OfLine Holds bytes a → OfLine Holds bytes b → a ≡ b
-one_of_line Holds one bytes a b (inl f) (inl g) = one a b f.1 g.1
-one_of_line Holds one bytes a b (inl f) (inr g) = absurd (g.0 f.0)
-one_of_line Holds one bytes a b (inr f) (inl g) = absurd (f.0 g.0)
-one_of_line Holds one bytes a b (inr f) (inr g) = f.1 ∙ sym g.1
+pub one_answer : (request : WgslRequest) → HasOne EachAnswered (Answers request)
+one_answer request = record { once = answer_once request; some = λ answered. answered request }
+
+pub one_reply_of : (request : Option WgslRequest) → HasOne EachAnswered (IsReplyOf request)
+one_reply_of None = known unreadable
+one_reply_of (Some request) = record {
+  once = λ a b f g.
+      let same = one_text request f.0 g.0 f.1 g.1 f.2 g.2 in f.3 ∙ (ap (λ kind. answer kind f.1) same.0 ∙ (ap (λ text. answer g.0 text) same.1 ∙ sym g.3));
+  some = λ answered.
+      let a = answered request in (answer (text_kind a.0) (answer_text a.0), (text_kind a.0, answer_text a.0, (a.0, a.1, refl, refl), refl));
+}
+
+dec_line : (line : List ℕ) → Dec (IsLineOfText line)
+dec_line line = elim (cases_lt 4096 (length line)) [
+  | inl long ↦ no (λ is. absurd (omega (arith, long, is.short)))
+  | inr short ↦ elim (decided (is_utf8 line) (IsUtf8-from_is_utf8 line, is_utf8-from_IsUtf8 line)) [
+    | no other ↦ no (λ is. other is.is_text)
+    | yes text ↦ yes (record { short = omega (arith, short); is_text = text })
+  ]
+]
+
+pub one_of_line : {Holds : ReplyText → Type 0} → HasOne EachAnswered Holds → (bytes : List ℕ) → HasOne EachAnswered (OfLine Holds bytes)
+one_of_line {Holds = Holds} one bytes = record {
+  once = once;
+  some = λ answered. elim (dec_line bytes) [
+    | no other ↦ (unreadable, inr (other, refl))
+    | yes is ↦ let r = one.some answered in (r.0, inl (is, r.1))
+  ];
+}
+  where
+    once : (a b : ReplyText) → OfLine Holds bytes a → OfLine Holds bytes b → a ≡ b
+    once a b (inl f) (inl g) = one.once a b f.1 g.1
+    once a b (inl f) (inr g) = absurd (g.0 f.0)
+    once a b (inr f) (inl g) = absurd (f.0 g.0)
+    once a b (inr f) (inr g) = f.1 ∙ sym g.1

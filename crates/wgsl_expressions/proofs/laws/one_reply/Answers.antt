@@ -2,4 +2,4 @@ use Rattle.wgsl_expressions.proofs.OneReply.{one_standard_reply}
 use Rattle.wgsl_expressions.proofs.laws.one_reply.Goals as goal
 
 pub returns : goal.returns
-returns c = one_standard_reply
+returns c = λ line. (one_standard_reply line).once
