@@ -91,9 +91,17 @@ test("a text of another language is known by words that only it has", () => {
   for (const text of ["", "bad", "struct A { m: float4x4 }", "struct A { @size(16) m: float3 }", "fn f(a: float3) {}", "@group(0) @binding(0) var t: Texture2D;", "// cbuffer\nbad", "/* #version 450 */", "alias cbuffers = f32"]) {
     assert.equal(named(text), null, text);
   }
-  const words = Object.fromEntries(foreignOf("cbuffer C { float4x3 m; float2 a; } float4 f() : SV_Target0 {}").words);
-  assert.match(words.cbuffer, /^struct Camera \{ view_proj: mat4x4f \} .*var<uniform> camera: Camera;$/);
-  assert.deepEqual([words.float4x3, words.float2, words.SV_Target0], ["mat4x3f", "vec2f", "@location(0)"]);
+  const camera = "struct Camera { view_proj: mat4x4f } @group(0) @binding(0) var<uniform> camera: Camera;", binding = "@group(0) @binding(0)";
+  for (const [text, ...words] of [
+    ["using namespace metal; [[buffer(0)]] [[ stage_in ]]", ["using namespace metal", ""], ["buffer", binding], ["stage_in ]]", "@location(0)"]],
+    ["#version 3\nuniform vec4 v; layout(binding = 0)", ["#version", ""], ["uniform vec4", camera], ["layout", binding]],
+    ["gl_Position gl_FragCoord sampler2D void main()", ["gl_Position", "@builtin(position)"], ["gl_FragCoord", "@builtin(..)"],
+      ["sampler2D", "texture_2d<f32>"], ["void main", "fn main()"]],
+    ["in highp vec3 at;", ["in highp vec3", "@location(0)"]],
+    ["cbuffer C { float4x3 m; float2 a; } : SV_Position", ["cbuffer", camera], ["float4x3", "mat4x3f"], ["float2", "vec2f"], ["SV_Position", "@builtin(position)"]],
+    ["SV_Target0 register(b0) Texture2D SamplerState", ["SV_Target0", "@location(0)"], ["register", binding], ["Texture2D", "texture_2d<f32>"], ["SamplerState", "sampler"]],
+    ["RWStructuredBuffer [numthreads(8, 8, 1)]", ["RWStructuredBuffer", "var<storage>"], ["numthreads", "@compute @workgroup_size(8)"]],
+  ]) assert.deepEqual(foreignOf(text).words, words, text);
   for (const line of ["cbuffer C {}", "#version 3\nuniform vec4 v;"]) for (const [, wgsl] of foreignOf(line).words) if (wgsl.includes("struct")) assert.deepEqual(told(wgsl).errors, []);
 });
 
