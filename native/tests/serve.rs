@@ -126,7 +126,7 @@ fn faults_are_told() {
         assert_eq!(client.faults()["diagnostics"], expected.collect(), "{text}");
     }
     client.tell("textDocument/didClose", opened("it"));
-    assert_eq!(client.faults()["diagnostics"], Json::List(Vec::new()));
+    assert_eq!(client.faults()["diagnostics"], Json::NONE);
     assert_eq!(client.end(), Some(0));
 }
 

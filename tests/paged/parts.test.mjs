@@ -5,6 +5,7 @@ import { mkdtempSync, readFileSync, rmSync } from "node:fs";
 import { tmpdir } from "node:os";
 import { join } from "node:path";
 import test from "node:test";
+import { hashOf, stateOf } from "page/address";
 import { paddingOf, piecesOfRow, runsOf } from "page/pieces";
 import { commentsOf, foreignOf, leftOut } from "page/wgsl";
 import { SourceError, code, layouts } from "wgsl-types-proved";
@@ -86,6 +87,14 @@ test("structs without a layout are found, with their errors and with those that 
   assert.deepEqual(brief("struct A { a: f32 } struct A { b: f32 }"), [1, ["A", "A", false, ["A"], []]]);
   const many = leftOut("struct S { a: x }\n".repeat(150), { structs: [], errors: [] });
   assert.deepEqual([many.count, many.structs.length], [150, 100]);
+});
+
+test("an address has the state of the page, or a text that is not compressed", async () => {
+  const state = ["struct Größe { a: vec3f } // 🦀", "type 1 + 2"], hash = await hashOf(state);
+  assert.match(hash, /^#z=[\w-]+$/);
+  assert.deepEqual(await stateOf(hash), state);
+  assert.deepEqual(await stateOf(`#wgsl=${encodeURIComponent(state[0])}`), [state[0]]);
+  for (const none of ["", "#", "#proved", "#z=%%%", hash.slice(0, 20), hash.slice(3)]) assert.equal(await stateOf(none), null, none);
 });
 
 test("comments are those of WGSL", () => {
