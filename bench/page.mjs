@@ -99,7 +99,8 @@ async function measureKey(page, text, name, place, typed) {
     times.push((await scriptTime(page)) - before);
   }
   const updates = await page.run(`performance.getEntriesByName("update").map(({ duration }) => duration)`);
-  console.log(`a key ${name}: ${ms(middle(times))} of processor time, at most ${ms(Math.max(...times))}; before the picture ${ms(middle(updates))}`);
+  const most = ms(Math.max(...times));
+  console.log(`a key ${name}: ${ms(middle(times))} of processor time, at most ${most}; before the picture ${ms(middle(updates))}`);
 }
 
 async function measurePage() {

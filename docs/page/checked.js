@@ -6,8 +6,8 @@ let wanted = null, isBusy = false;
 
 /** What was found last, with its text. */
 export let last = {
-  text: "", structs: [], variables: [], errors: [], findings: [], names: [], broken: { count: 0, structs: [] }, foreign: null, isBroken: false,
-  faults: [], lets: [], kinds: [], parts: [],
+  text: "", structs: [], variables: [], errors: [], findings: [], names: [], faults: [], lets: [], kinds: [], parts: [],
+  broken: { count: 0, structs: [] }, isBroken: false, foreign: null,
 };
 
 worker.onmessage = ({ data }) => waiting.shift()(data);

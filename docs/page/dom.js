@@ -24,7 +24,7 @@ export function replaceChildren(parent, wanted) {
   });
 }
 
-/** Has an element show what a map makes by its keys, and nothing else; what `shown` has by a key stays. Returns what is shown, by its keys. */
+/** Has an element show what is made by the keys of a list, and nothing else; what `shown` has by a key stays. Returns what is shown. */
 export function showKept(parent, shown, wanted) {
   const made = new Map();
   for (const [key, make] of wanted) made.set(key, shown.get(key) ?? make(made.size));

@@ -48,7 +48,8 @@ function tellCounts() {
   at("counts").textContent = numbers.join(" · ");
 }
 
-/** Draws what the text lays out; later if many cards are others, or if there are errors, which take away structs that the next key may bring back. */
+/** Draws what the text lays out; later if many cards are others, or if there are errors: these take away structs that the next key may
+ * bring back. */
 function draw() {
   const wanted = wantedCards(), others = [...wanted.keys()].filter((key) => !cards.has(key)).length;
   const isLater = !isNew && (wasBroken || last.isBroken || others > DRAWN_AT_ONCE);

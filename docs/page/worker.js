@@ -32,7 +32,8 @@ function laidOut(text) {
 
 /** The faults of a text, the types of its `let`s, and four numbers per expression: start, end, which of `kinds`, and declaration. */
 function checked(text) {
-  const { faults = [], parts = [] } = answered(check, text), numbers = new Int32Array(parts.length * 4), kinds = new Map(), places = new Map();
+  const { faults = [], parts = [] } = answered(check, text), numbers = new Int32Array(parts.length * 4);
+  const kinds = new Map(), places = new Map();
   for (const [at, { index, end, type, stage, declared }] of parts.entries()) {
     const key = `${stage} ${type}`;
     if (!kinds.has(key)) kinds.set(key, { type, stage, number: kinds.size });
@@ -53,7 +54,8 @@ function valueOf(type) {
 function typed(text, expression) {
   let name = "it";
   while (text.includes(name)) name += "_";
-  const before = `${text}\nfn ${name}() { _ = (`, start = before.length, { faults = [], parts = [] } = answered(check, `${before}${expression}\n); }`);
+  const before = `${text}\nfn ${name}() { _ = (`, start = before.length;
+  const { faults = [], parts = [] } = answered(check, `${before}${expression}\n); }`);
   const fault = faults.find(({ index }) => index >= start - 1), stop = start + expression.length;
   const whole = parts.find(({ index, end }) => index === start - 1 && end.index > stop);
   if (fault) return { outcome: { fault, at: Math.min(Math.max(fault.index - start, 0), expression.length) } };

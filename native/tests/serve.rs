@@ -126,7 +126,7 @@ fn faults_are_told() {
         assert_eq!(client.faults()["diagnostics"], expected.collect(), "{text}");
     }
     client.tell("textDocument/didClose", opened("it"));
-    assert_eq!(client.faults()["diagnostics"], Json::List(Vec::new()));
+    assert_eq!(client.faults()["diagnostics"], Json::NONE);
     assert_eq!(client.end(), Some(0));
 }
 
@@ -172,6 +172,12 @@ fn capabilities_are_asked() {
     }
 }
 
+/// What the server can do for a client that counts bytes and prepares renames.
+const CAPABILITIES: &str = r#"{"positionEncoding": "utf-8", "textDocumentSync": {"openClose": true, "change": 1},
+    "hoverProvider": true, "signatureHelpProvider": {"triggerCharacters": ["(", ","]},
+    "completionProvider": {"triggerCharacters": [".", "@", "<"]}, "definitionProvider": true, "referencesProvider": true,
+    "renameProvider": {"prepareProvider": true}, "documentSymbolProvider": true, "inlayHintProvider": true}"#;
+
 /// Positions count bytes or units of UTF-16, and lines end as in the protocol.
 #[test]
 fn positions_are_negotiated() {
@@ -182,11 +188,18 @@ fn positions_are_negotiated() {
         (r#"["utf-16", "utf-8"]"#, "utf-16", [17, 16]),
         ("[]", "utf-16", [17, 16]),
     ] {
-        let general = format!(r#"{{"general": {{"positionEncodings": {encodings}}}}}"#);
-        let params = object! { "capabilities": Json::read(&general).unwrap() };
+        let prepares = encoding == "utf-8";
+        let client_can = format!(
+            r#"{{"general": {{"positionEncodings": {encodings}}},
+            "textDocument": {{"rename": {{"prepareSupport": {prepares}}}}}}}"#
+        );
+        let params = object! { "capabilities": Json::read(&client_can).unwrap() };
         let mut client = Client::spawn();
         let reply = client.request("initialize", params);
-        assert_eq!(reply["result"]["capabilities"]["positionEncoding"].as_text(), Some(encoding));
+        let plain =
+            CAPABILITIES.replace("{\"prepareProvider\": true}", "true").replace("utf-8", encoding);
+        let expected = if prepares { CAPABILITIES } else { &plain };
+        assert_eq!(reply["result"]["capabilities"], Json::read(expected).unwrap());
         client.open("a", text);
         assert_eq!(client.faults()["diagnostics"].as_list()[0]["range"]["start"], start(2, 10));
         let mut declared = |line, character| {

@@ -16,7 +16,9 @@ const register = (language, provider) => (registered.push(language), Object.assi
 let open = null;
 addWgsl({
   MarkerSeverity: { Error: 8 },
-  languages: { register: (language) => registered.push(language), registerHoverProvider: register, registerSignatureHelpProvider: register },
+  languages: {
+    register: (language) => registered.push(language), registerHoverProvider: register, registerSignatureHelpProvider: register,
+  },
   editor: {
     getModels: () => [...watched, other], onDidCreateModel: (listener) => (open = listener),
     setModelMarkers: (model, owner, found) => (owners.push([model, owner]), markers.push(found)),

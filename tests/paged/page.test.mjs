@@ -374,6 +374,8 @@ test("the types of lets stand behind their lines, and can be switched off; fault
   for (const count of [0, 3]) assert.equal(await page.run(`types.click(), document.querySelectorAll("#hints div").length`), count);
   await page.run(fill("fn f() {\nlet a: f32 = 1;\nlet b = 1u + true;\nlet c = 1u /* ; */ + 2;\nlet d = frexp(1.5);\nlet e = array(vec2(1), vec2(2));\nlet i /**/ = (1.5); let let1 = 2; }\nfn k() { let j = 1; let l = ; }"));
   assert.deepEqual(await page.run(HINTS), [[4, ": u32"], [5, ": __frexp_result_f32"], [6, ": array<vec2<i32>, 2>"], [7, "i: f32, let1: i32"]]);
+  await page.run(fill("fn f() { let\nm = 1u; }"));
+  assert.deepEqual(await page.run(HINTS), [[2, ": u32"]]);
   for (const [from, to, hints, marks] of [["fn", "\n\nfn", [4, 5], ["5.75rem+"]], ["1u;", "1u\n;", [2, 4], ["4.5rem+"]], ["+", "-", [2, 3], []]]) {
     await page.run(fill(text));
     assert.deepEqual(await page.run(`new Promise((done) => { source.value = ${JSON.stringify(text.replace(from, to))}; source.dispatchEvent(new Event("input")); requestAnimationFrame(() =>

@@ -5,7 +5,8 @@ import { mkdtempSync, readFileSync, rmSync } from "node:fs";
 import { tmpdir } from "node:os";
 import { join } from "node:path";
 import test from "node:test";
-import { paddingOf, runsOf } from "page/pieces";
+import { hashOf, stateOf } from "page/address";
+import { paddingOf, piecesOfRow, runsOf } from "page/pieces";
 import { commentsOf, foreignOf, leftOut } from "page/wgsl";
 import { SourceError, code, layouts } from "wgsl-types-proved";
 
@@ -42,6 +43,19 @@ test("of a member that takes more than seven rows, the first four and the last a
   assert.deepEqual(runs("a: array<vec4f, 513>", new Set([0])), [[0, 4, null], [4, 512, 0], [512, 513, null]]);
 });
 
+test("a row of the map has the parts and the gaps that lie in it", () => {
+  for (const [members, row, ...pieces] of [
+    ["a: f32, b: vec3f", 0, ["a", 0, 4, 4], ["a", 4, 12, "gap"]],
+    ["a: f32, b: vec3f", 1, ["b", 0, 12, 4], ["b", 12, 4, "gap"]],
+    ["a: array<I, 2>", 1, ["a[1].x", 0, 4, 4], ["a[1].x", 4, 4, "gap"], ["a[1].y", 8, 8, 4]],
+    ["a: mat3x3f", 2, ["a[2]", 0, 12, 4], ["a[2]", 12, 4, "gap"]],
+    ["a: f32, @size(40) b: u32, c: u32", 1, ["b", 0, 16, "gap"]],
+  ]) {
+    const found = piecesOfRow(layouts(`struct S { ${members} } struct I { x: u32, y: vec2f }`).structs[0], row);
+    assert.deepEqual(found.map(({ path, column, span, step, isGap }) => [path, column, span, isGap ? "gap" : step]), pieces, members);
+  }
+});
+
 test("code is that of the text, errors or not, and an error has the end of its word", () => {
   const text = "struct linux { INT8_WIDTH: f32, is: vec3f } struct is { gen: linux }";
   assert.match(code(text, "c"), /^#pragma once\n[^]*struct linux_ \{\n {4}float INT8_WIDTH_;\n {4}uint8_t padding_0\[12\];\n {4}float is\[3\];/);
@@ -75,6 +89,14 @@ test("structs without a layout are found, with their errors and with those that 
   assert.deepEqual([many.count, many.structs.length], [150, 100]);
 });
 
+test("an address has the state of the page, or a text that is not compressed", async () => {
+  const state = ["struct Größe { a: vec3f } // 🦀", "type 1 + 2"], hash = await hashOf(state);
+  assert.match(hash, /^#z=[\w-]+$/);
+  assert.deepEqual(await stateOf(hash), state);
+  assert.deepEqual(await stateOf(`#wgsl=${encodeURIComponent(state[0])}`), [state[0]]);
+  for (const none of ["", "#", "#proved", "#z=%%%", hash.slice(0, 20), hash.slice(3)]) assert.equal(await stateOf(none), null, none);
+});
+
 test("comments are those of WGSL", () => {
   const text = "a // b /* c\n/* d /* e */ f */ g /* h", parts = commentsOf(text).map(([from, to]) => text.slice(from, to));
   assert.deepEqual(parts, ["// b /* c", "/* d /* e */ f */", "/* h"]);
@@ -91,9 +113,21 @@ test("a text of another language is known by words that only it has", () => {
   for (const text of ["", "bad", "struct A { m: float4x4 }", "struct A { @size(16) m: float3 }", "fn f(a: float3) {}", "@group(0) @binding(0) var t: Texture2D;", "// cbuffer\nbad", "/* #version 450 */", "alias cbuffers = f32"]) {
     assert.equal(named(text), null, text);
   }
-  const words = Object.fromEntries(foreignOf("cbuffer C { float4x3 m; float2 a; } float4 f() : SV_Target0 {}").words);
-  assert.match(words.cbuffer, /^struct Camera \{ view_proj: mat4x4f \} .*var<uniform> camera: Camera;$/);
-  assert.deepEqual([words.float4x3, words.float2, words.SV_Target0], ["mat4x3f", "vec2f", "@location(0)"]);
+  const camera = "struct Camera { view_proj: mat4x4f } @group(0) @binding(0) var<uniform> camera: Camera;";
+  const binding = "@group(0) @binding(0)";
+  for (const [text, ...words] of [
+    ["using namespace metal; [[buffer(0)]] [[ stage_in ]]", ["using namespace metal", ""], ["buffer", binding],
+      ["stage_in ]]", "@location(0)"]],
+    ["#version 3\nuniform vec4 v; layout(binding = 0)", ["#version", ""], ["uniform vec4", camera], ["layout", binding]],
+    ["gl_Position gl_FragCoord sampler2D void main()", ["gl_Position", "@builtin(position)"], ["gl_FragCoord", "@builtin(..)"],
+      ["sampler2D", "texture_2d<f32>"], ["void main", "fn main()"]],
+    ["in highp vec3 at;", ["in highp vec3", "@location(0)"]],
+    ["cbuffer C { float4x3 m; float2 a; } : SV_Position", ["cbuffer", camera], ["float4x3", "mat4x3f"], ["float2", "vec2f"],
+      ["SV_Position", "@builtin(position)"]],
+    ["SV_Target0 register(b0) Texture2D SamplerState", ["SV_Target0", "@location(0)"], ["register", binding],
+      ["Texture2D", "texture_2d<f32>"], ["SamplerState", "sampler"]],
+    ["RWStructuredBuffer [numthreads(8, 8, 1)]", ["RWStructuredBuffer", "var<storage>"], ["numthreads", "@compute @workgroup_size(8)"]],
+  ]) assert.deepEqual(foreignOf(text).words, words, text);
   for (const line of ["cbuffer C {}", "#version 3\nuniform vec4 v;"]) for (const [, wgsl] of foreignOf(line).words) if (wgsl.includes("struct")) assert.deepEqual(told(wgsl).errors, []);
 });
 

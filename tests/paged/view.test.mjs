@@ -30,6 +30,12 @@ const VALUE = {
   n: -5,
 };
 
+test("a scalar and a vector have as many bytes as the layout says", () => {
+  const scalars = ["i32", "u32", "f32", "f16", "i64", "u64", "f64"];
+  const text = `enable f16; struct S { ${scalars.map((name) => `${name}_: ${name}, two_${name}: vec2<${name}>`).join(", ")} }`;
+  for (const member of layouts(text).structs[0].members) assert.equal(view(member).buffer.byteLength, member.size, member.type);
+});
+
 test("a bool has four bytes, whatever lay there", () => {
   const buffer = new Uint8Array(4).fill(255).buffer, on = view(variables.on, { buffer });
   for (const value of [true, false]) {

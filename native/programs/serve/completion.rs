@@ -56,13 +56,13 @@ const INTERFACE: [Around; 3] = [Around::Members, Around::Parameters, Around::Hea
 /// The items at a byte.
 pub fn completion(document: &Document, byte: usize) -> Json {
     let is_word = |c: char| c == '_' || c.is_alphanumeric();
-    let start = document.written.text[..byte].trim_end_matches(is_word).len();
-    let end = document.written.text.len()
-        - document.written.text[byte..].trim_start_matches(is_word).len();
-    let text = without_strange(&with_word(&document.written.text, start..end, "x"));
+    let written = &document.written.text;
+    let start = written[..byte].trim_end_matches(is_word).len();
+    let end = written.len() - written[byte..].trim_start_matches(is_word).len();
+    let text = without_strange(&with_word(written, start..end, "x"));
     match Cursor::of(tokens(&text).unwrap_or_default(), start) {
         Some(cursor) => items(&cursor, &Module::of(mended(&text)), &text, start),
-        None => Json::List(Vec::new()),
+        None => Json::NONE,
     }
 }
 
@@ -96,11 +96,9 @@ fn items(cursor: &Cursor, module: &Module, text: &str, byte: usize) -> Json {
         (Semicolon | OpenCurly | CloseCurly | CloseRound | Else, Around::Block) => {
             values.chain(keywords(STATEMENTS)).collect()
         }
-        (_, Around::Parameters | Around::Members | Around::Header) => Json::List(Vec::new()),
-        (Fn | Struct | Alias | Let | Var | Const | Override, _)
-        | (Name | Number | True | False | CloseSquare | CloseRound | CloseTemplate, _) => {
-            Json::List(Vec::new())
-        }
+        (_, Around::Parameters | Around::Members | Around::Header) => Json::NONE,
+        (Fn | Struct | Alias | Let | Var | Const | Override, _) => Json::NONE,
+        (Name | Number | True | False | CloseSquare | CloseRound | CloseTemplate, _) => Json::NONE,
         _ => values.collect(),
     }
 }
@@ -218,7 +216,7 @@ fn members(module: &Module, byte: usize) -> Json {
     match (structure, ty) {
         (Some(structure), _) => members_of(module, structure),
         (None, Some(ty)) => components_of(ty),
-        (None, None) => Json::List(Vec::new()),
+        (None, None) => Json::NONE,
     }
 }
 
@@ -252,7 +250,7 @@ fn members_of(module: &Module, structure: &Name) -> Json {
 
 /// The components of a vector; none of another type.
 fn components_of(ty: Type) -> Json {
-    let Type::Vec(count, _) = *loaded(&ty) else { return Json::List(Vec::new()) };
+    let Type::Vec(count, _) = *loaded(&ty) else { return Json::NONE };
     let operand = Operand::new(ty);
     let components = components(usize::from(count)).filter_map(|name| {
         let component = type_of_member(&operand, &name).ok()?;

@@ -22,7 +22,7 @@ pub struct Document {
 }
 
 /// A text, and what is found of it when it is first asked for.
-#[derive(Debug)]
+#[derive(Debug, Default)]
 pub struct Module {
     pub text: String,
     checked: OnceCell<Checked>,
@@ -91,8 +91,7 @@ impl Document {
 
 impl Module {
     pub fn of(text: String) -> Module {
-        let (checked, tokens, layouts) = (OnceCell::new(), OnceCell::new(), OnceCell::new());
-        Module { text, checked, tokens, layouts }
+        Module { text, ..Module::default() }
     }
 
     pub fn checked(&self) -> &Checked {

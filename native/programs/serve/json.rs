@@ -27,6 +27,9 @@ pub enum Json {
 }
 
 impl Json {
+    /// The list without items.
+    pub const NONE: Json = Json::List(Vec::new());
+
     /// Reads a text that is one value. The error is the index of the first byte that can't stand there.
     pub fn read(text: &str) -> Result<Json, usize> {
         let mut reader = Reader { text, at: 0 };

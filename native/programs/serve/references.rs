@@ -15,7 +15,7 @@ pub fn definition(document: &Document, byte: usize) -> Json {
 /// Where the name at a byte is used.
 pub fn references(document: &Document, byte: usize, with_declaration: bool) -> Json {
     let checked = document.module().checked();
-    let Some(declared) = checked.declaration_at(byte) else { return Json::List(Vec::new()) };
+    let Some(declared) = checked.declaration_at(byte) else { return Json::NONE };
     let uses = checked.uses_of(&declared).into_iter();
     let uses = uses.filter(|bytes| with_declaration || *bytes != declared);
     uses.map(|bytes| document.location(&bytes)).collect()

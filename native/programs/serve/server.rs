@@ -174,7 +174,7 @@ impl<Output: Write> Server<Output> {
             }
             ("textDocument/didClose", Some(_)) => {
                 self.documents.remove(uri);
-                let none = object! { "uri": uri, "diagnostics": Json::List(Vec::new()) };
+                let none = object! { "uri": uri, "diagnostics": Json::NONE };
                 return notify(&mut self.output, "textDocument/publishDiagnostics", none);
             }
             _ => None,
