@@ -6,6 +6,7 @@ import { tmpdir } from "node:os";
 import { join } from "node:path";
 import test from "node:test";
 import { hashOf, stateOf } from "page/address";
+import { examples } from "page/examples";
 import { paddingOf, piecesOfRow, runsOf } from "page/pieces";
 import { commentsOf, foreignOf, leftOut } from "page/wgsl";
 import { SourceError, code, layouts } from "wgsl-types-proved";
@@ -95,6 +96,11 @@ test("an address has the state of the page, or a text that is not compressed", a
   assert.deepEqual(await stateOf(hash), state);
   assert.deepEqual(await stateOf(`#wgsl=${encodeURIComponent(state[0])}`), [state[0]]);
   for (const none of ["", "#", "#proved", "#z=%%%", hash.slice(0, 20), hash.slice(3)]) assert.equal(await stateOf(none), null, none);
+});
+
+test("of the examples one has errors", () => {
+  const counts = Object.entries(examples).map(([name, text]) => [name, told(text).errors.length]);
+  assert.deepEqual(counts, [["Lights", 0], ["What goes wrong", 3], ["Half floats", 0], ["Matrices", 0]]);
 });
 
 test("comments are those of WGSL", () => {

@@ -177,6 +177,7 @@ test("the map's parts are told by keys, from the first to the last", async () =>
   };
   const first = "a: f32, offset 0, size 4, alignment 4 (bytes 0–3)";
   assert.equal(await told("Home"), first);
+  assert.deepEqual(await page.run(texts(".map .on")), ["a"]);
   assert.equal(await told("ArrowLeft"), first);
   assert.equal(await told("ArrowRight", "ArrowDown"), "b[0].x: vec3<f32>, offset 16, size 12 (bytes 16–27), in b: array<I, 2>");
   assert.equal(await told("ArrowRight", "ArrowRight"), "b[0].y[0]: vec2<u32>, offset 32, size 8 (bytes 32–39), in b: array<I, 2>");
@@ -282,6 +283,7 @@ test("names, types and numbers have three colours, in the text, in tables and in
     const page = await opened({ dark });
     await page.run("document.getElementById('code').scrollIntoView()");
     await page.until("document.querySelector('#code-text .type')");
+    assert.deepEqual([...new Set(await page.run(texts(".struct td.none")))].sort(), ["0", "–"]);
     const kinds = ["name", "type", "number"], all = [];
     for (const part of ["#colors", ".struct td", "#variables td", "#code-text"]) {
       const found = [];
