@@ -4,6 +4,8 @@ pub mod Measures
 pub mod Members
 pub mod Declarations
 pub mod Lengths
+pub mod Items
+pub mod Kept
 pub mod Sizings
 pub mod Structs
 pub mod Sites

@@ -111,4 +111,4 @@ no_size ms ws end greatest placed same none struct known =
 pub at_fault : (s : Stop) (P : Type 0) → P → AtFault s P
 at_fault (Memory e) P h = tt
 at_fault (Fault f) P h = h
-at_fault Elsewhere P h = tt
+at_fault (Elsewhere at) P h = tt

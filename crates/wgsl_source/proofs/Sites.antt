@@ -22,14 +22,17 @@ ends_at : (t : Text) (first rest : List Event) (event : Event) (end : End) → f
 ends_at t first rest event end is by = ap (end_at t) is ∙ sym by
 
 pub is_next : (t : Text) (events list first rest : List Event) (event : Event) (end : End) (r : Read) → BehindAttributes events list → first ≡ drop (list_len list) list
-    → first ≡ event ∷ rest → end ≡ end_by event.mark (token_before t (event.at - 1)).kind → len_to end first ≢ 0 → r.kind ≡ declared_by end → r.named ≡ event.at
+    → first ≡ event ∷ rest → end ≡ end_by event.mark (token_before t (event.at - 1)).kind → len_to end first ≢ 0 → r.kind ≡ declared_by end → r.attributes.now ≡ events
+    → r.list.now ≡ take (list_len list) list → r.named ≡ event.at
     → r.events.now ≡ take (len_to end first) first → r.behind.now ≡ drop (len_to end first) first → IsNext t events r
-is_next t events list first rest event end r attributed listed is by some kind count read behind =
+is_next t events list first rest event end r attributed listed is by some kind attributes front count read behind =
     let at : end ≡ end_at t first = sym (ends_at t first rest event end is by) in
     record {
       site = record { attributes = events; list = list; first = first };
       there = record { begin = refl; attributed = attributed; listed = listed; some = subst (λ x. len_to x first ≢ 0) at some };
       kind = kind ∙ ap declared_by at;
+      attributes = attributes;
+      list = front;
       count = count ∙ ap first_count (sym is);
       read = read ∙ ap (λ x. take (len_to x first) first) at;
       behind = behind ∙ ap (λ x. drop (len_to x first) first) at;
@@ -86,10 +89,13 @@ nothing_read t events r old next none = record { added = []; kept = sym (append-
 
 -- a declaration that is read
 pub is_of : (t : Text) (events : List Event) (r : Read) (d : Declaration) (next : IsNext t events r) → r.kind ≡ Some d.kind → d.is_faulty ≡ false
-    → d.name.now ≡ word t.text.now (token_before t r.named) → d.place ≡ (token_before t r.named).at → d.rest.now ≡ inner r.events.now → IsOf t next.site d
-is_of t events r d next kind readable name place rest = record {
+    → d.name.now ≡ word t.text.now (token_before t r.named) → d.place ≡ (token_before t r.named).at → d.attributes.now ≡ r.attributes.now → d.list.now ≡ r.list.now
+    → d.rest.now ≡ inner r.events.now → IsOf t next.site d
+is_of t events r d next kind readable name place attributes list rest = record {
   kind = sym next.kind ∙ kind;
   readable = readable;
   named = record { name = name ∙ ap (λ n. word t.text.now (token_before t n)) next.count; place = place ∙ ap (λ n. (token_before t n).at) next.count };
+  attributes = attributes ∙ next.attributes;
+  list = list ∙ next.list;
   rest = rest ∙ ap inner next.read;
 }

@@ -69,10 +69,17 @@ abbrev pub len_to : End → List Event → ℕ
 len_to end [] = 0
 len_to end (event ∷ events) = cond (is_end end (end_of event.mark)) 1 (behind_one (len_to end events))
 
+abbrev pub without_last : List Event → List Event
+without_last events = take (length events - 1) events
+
 -- the events without the first and the last one
 abbrev pub inner : List Event → List Event
 inner [] = []
-inner (event ∷ events) = take (length events - 1) events
+inner (event ∷ events) = without_last events
+
+-- the events of the type that is declared behind a name; none if none is
+abbrev pub declared_type : List Event → List Event
+declared_type events = without_last (take (len_to e.Typed events) events)
 
 -- Attributes
 

@@ -40,7 +40,7 @@ impl<'t> Scope<'t> {
             Content::Type(ty) => Ok(constructor(ty)),
             Content::Name => match self.meaning(self.text.word(name.token)) {
                 Some(Meaning::Type(ty)) => Ok(constructor(ty)),
-                Some(Meaning::Faulty | Meaning::Unread) => Err(Stop::Elsewhere),
+                Some(Meaning::Faulty | Meaning::Unread) => Err(name.elsewhere()),
                 Some(_) => Ok(None),
                 None => self.predeclared_callee(name),
             },

@@ -7,7 +7,7 @@ ghost use Rattle.wgsl_source.specs.internal.Read.{Adds, AreAll, IsMisread, IsNex
 use crate::directive::read_directive;
 use crate::extension::enabled;
 use crate::fault::{Cause, Fault};
-use crate::parts::{End, inner, split_attributes, split_first, split_list, split_to};
+use crate::parts::{End, behind_attributes, inner, split_first, split_list, split_to};
 use crate::scope::Extensions;
 use crate::text::Text;
 use std::alloc::{AllocError, Global};
@@ -36,6 +36,7 @@ pub struct Declaration<'t> {
     pub place: usize,
     /// How many tokens stand up to its name, with it.
     pub named: usize,
+    /// The events from its attributes on.
     pub attributes: &'t [Event],
     /// The template list of a variable.
     pub list: &'t [Event],
@@ -82,6 +83,7 @@ pub fn read_declarations<'t>(
 struct Read<'t> {
     /// What is declared; None for a directive or an assertion.
     kind: Option<DeclarationKind>,
+    /// The events from its attributes on.
     attributes: &'t [Event],
     list: &'t [Event],
     /// How many tokens stand up to its first event behind these, with its own.
@@ -96,15 +98,15 @@ fn next_declaration<'t>(text: Text<'t>, events: &'t [Event]) -> Option<Read<'t>>
     ensures exact { MatchOption result (IsNone text.entry events.now) (IsNext text.entry events.now) }
     ensures less { IfSome result (λ read. length read.behind.now < length events.now) }
 {
-    let attributes = split_attributes(events);
-    let list = split_list(attributes.rest);
+    let behind = behind_attributes(events);
+    let list = split_list(behind);
     let (first, _) = split_first(list.rest)?;
     let word = text.token_before(first.at.saturating_sub(1));
     let end = end_by(first.mark, word.kind);
     let split = split_to(list.rest, end)?;
     Some(Read {
         kind: declared_by(end),
-        attributes: attributes.front,
+        attributes: events,
         list: list.front,
         named: first.at,
         events: split.front,

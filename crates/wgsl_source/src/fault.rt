@@ -243,8 +243,8 @@ pub struct Fault {
 pub enum Stop {
     Memory(AllocError),
     Fault(Fault),
-    /// A declaration that is used here has a fault, which is reported there.
-    Elsewhere,
+    /// A declaration that is used at this index of the text has a fault, which is reported there.
+    Elsewhere(usize),
 }
 
 impl Stop {

@@ -1,4 +1,6 @@
 // What stands behind the name of a variable, an override or a constant.
+ghost use Rattle.std.specs.Prelude.{◌≡◌};
+ghost use Rattle.wgsl_source.specs.Declarations.{declared_type};
 
 use crate::declaration::Declaration;
 use crate::parts::{split_typed, without_last};
@@ -16,7 +18,9 @@ pub struct Initialized<'t> {
 
 impl<'t> Scope<'t> {
     /// The type and the value of a variable or an override.
-    pub fn initialized(&self, declaration: &Declaration<'t>) -> Initialized<'t> {
+    pub fn initialized(&self, declaration: &Declaration<'t>) -> Initialized<'t>
+        ensures { result.ty.now ≡ declared_type declaration.now.rest.now }
+    {
         let typed = self.typed(declaration);
         Initialized {
             ty: typed.ty,
@@ -26,7 +30,9 @@ impl<'t> Scope<'t> {
     }
 
     /// The type and the value of a constant.
-    pub fn typed(&self, declaration: &Declaration<'t>) -> Initialized<'t> {
+    pub fn typed(&self, declaration: &Declaration<'t>) -> Initialized<'t>
+        ensures { result.ty.now ≡ declared_type declaration.now.rest.now }
+    {
         let split = split_typed(declaration.rest);
         Initialized {
             ty: without_last(split.front),

@@ -36,6 +36,11 @@ impl Item {
         Stop::at(self.token.at, cause)
     }
 
+    /// A `Stop` at the name of a declaration that has a fault.
+    pub fn elsewhere(self) -> Stop {
+        Stop::Elsewhere(self.token.at)
+    }
+
     fn is_sign(self, sign: Kind) -> bool {
         match self.content {
             Content::Sign(kind) => kind == sign,

@@ -1,6 +1,8 @@
 // The names in template lists, and the types that contain no other type.
-ghost use Rattle.std.specs.Prelude.{◌≡◌, ◌⊎◌, IfOk, true};
-ghost use Rattle.wgsl_syntax.specs.Address.{default_access, may_say};
+ghost use Rattle.std.specs.Prelude.{◌≡◌, ◌⊎◌, ◌∷◌, IfOk, IfSome, true};
+ghost use Rattle.wgsl_syntax.specs.Address.{IsSpace, default_access, may_say};
+ghost use Rattle.wgsl_syntax.specs.declared.rules.RuleSet.TheVariants.{Standard};
+ghost use Rattle.wgsl_source.specs.internal.Items.{HasAccess, NamesAccess};
 
 use crate::fault::{Cause, Expected, Stop};
 use crate::item::{Content, Item};
@@ -45,7 +47,7 @@ impl<'t> Scope<'t> {
             Content::Name => match self.meaning(word) {
                 None => SampledType::from_str(word).ok(),
                 Some(Meaning::Type(ty)) => sampled_by(ty.as_scalar()),
-                Some(Meaning::Faulty | Meaning::Unread) => return Err(Stop::Elsewhere),
+                Some(Meaning::Faulty | Meaning::Unread) => return Err(item.elsewhere()),
                 Some(_) => None,
             },
             _ => None,
@@ -72,14 +74,38 @@ impl<'t> Scope<'t> {
         rest: &[Item],
         name: Item,
     ) -> Result<AccessMode, Stop>
+        ensures said { IfOk result (HasAccess self.now.text space rest.now) }
         ensures may_be_said { IfOk result (λ access. (access ≡ default_access space)
             ⊎ (may_say space access ≡ true)) }
     {
-        let item = match rest {
-            [] => return Ok(space.default_access_mode()),
-            [item] => *item,
-            _ => return Err(name.stop(Cause::WrongParameterCount)),
-        };
+        match rest {
+            [] => Ok(space.default_access_mode()),
+            [item, more @ ..] => self.only_access(space, *item, more, name),
+        }
+    }
+
+    /// The access mode that an item says, if no other one is behind it.
+    fn only_access(
+        &self,
+        space: AddressSpace,
+        item: Item,
+        more: &[Item],
+        name: Item,
+    ) -> Result<AccessMode, Stop>
+        ensures said { IfOk result (HasAccess self.now.text space (item ∷ more.now)) }
+        ensures may_be_said { IfOk result (λ access. (access ≡ default_access space)
+            ⊎ (may_say space access ≡ true)) }
+    {
+        match more {
+            [] => self.said_access(space, item),
+            _ => Err(name.stop(Cause::WrongParameterCount)),
+        }
+    }
+
+    fn said_access(&self, space: AddressSpace, item: Item) -> Result<AccessMode, Stop>
+        ensures named { IfOk result (NamesAccess self.now.text item) }
+        ensures may_be_said { IfOk result (λ access. may_say space access ≡ true) }
+    {
         let access = self.access(item)?;
         if space.may_say(access) {
             Ok(access)
@@ -88,8 +114,11 @@ impl<'t> Scope<'t> {
         }
     }
 
-    fn access(&self, item: Item) -> Result<AccessMode, Stop> {
-        match AccessMode::from_str(self.enumerant(item, Expected::AccessMode)?) {
+    fn access(&self, item: Item) -> Result<AccessMode, Stop>
+        ensures { IfOk result (NamesAccess self.now.text item) }
+    {
+        let name = self.enumerant(item, Expected::AccessMode)?;
+        match AccessMode::from_str(name) {
             Ok(access) => Ok(access),
             Err(_) => Err(item.stop(Cause::Expected(Expected::AccessMode))),
         }
@@ -123,9 +152,11 @@ fn sampled_by(scalar: Option<Scalar>) -> Option<SampledType> {
 }
 
 /// The address space with this name, or with naga's. A module has no name for that of textures and samplers.
-pub fn space_named(name: &str) -> Option<AddressSpace> {
+pub fn space_named(name: &str) -> Option<AddressSpace>
+    ensures { IfSome result (IsSpace Standard name.now) }
+{
     match AddressSpace::named_by(RuleSet::Standard, name) {
-        Some(AddressSpace::Handle) => None,
-        space => space,
+        Some(AddressSpace::Handle) | None => None,
+        Some(space) => Some(space),
     }
 }

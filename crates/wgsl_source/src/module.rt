@@ -1,7 +1,9 @@
 // Modules: what they declare, and what is wrong with them.
-ghost use Rattle.std.specs.Prelude.{◌≡◌, IfOk, List, OnOk, Some, map, slice_get};
+ghost use Rattle.std.specs.Prelude.{◌≡◌, ◌≢◌, ◌∷◌, [], IfOk, List, OnOk, Some, map, slice_get};
 ghost use Rattle.std.specs.List.{All};
 ghost use Rattle.wgsl_source.specs.TextStructs.{AreAllTold, IsDeclared};
+ghost use Rattle.wgsl_source.specs.TextVariables.{AreVariables};
+ghost use Rattle.wgsl_source.specs.internal.Others.{AddsOthers};
 ghost use Rattle.wgsl_source.specs.internal.Read.{AreAllMeant, AreListed, IsMeant, Known, KnownAll, KnownAt, KnownStruct, Means, Nothing, names_of};
 ghost use Rattle.wgsl_source.specs.Structs.{AreStructsOf, IsKept, Keeps, SameStructs};
 ghost use Rattle.wgsl_source.specs.declared.declaration.Declaration.{Declaration as of_declaration};
@@ -14,8 +16,10 @@ use crate::listed::{Alias, Listed};
 use crate::meant::Declared;
 use crate::measured::MeasuredType;
 use crate::order::{Circular, Order, order_of};
+use crate::others::Others;
 use crate::scope::{Meaning, Scope};
 use crate::structure::Struct;
+use crate::telling::{sort, tell};
 use crate::text::{Text, has_byte_order_mark};
 use crate::types::Types;
 use crate::value::Value;
@@ -79,9 +83,6 @@ struct Reader<'t> {
     scope: Scope<'t>,
     types: Types,
     structs: Vec<Struct<'t>>,
-    variables: Vec<Variable<'t>>,
-    overrides: Vec<Override<'t>>,
-    entry_points: Vec<EntryPoint<'t>>,
     faults: Vec<Fault>,
     declared: Declared<'t>,
 }
@@ -95,6 +96,7 @@ pub fn read_module<'t>(
     ensures structs { IfOk result (λ m. AreStructsOf m.elements.items m.structs.items) }
     ensures declared { IfOk result (λ m. All (IsDeclared text.entry grammar.now.events.items) m.structs.items) }
     ensures told { IfOk result (λ m. AreAllTold text.entry grammar.now.events.items m.structs.items m.in_text.items (map (λ name. name.now) m.left_out.items)) }
+    ensures variables { IfOk result (λ m. AreVariables text.entry grammar.now.events.items m.faults.items m.variables.items) }
 {
     let Declarations {
         declarations,
@@ -105,14 +107,12 @@ pub fn read_module<'t>(
         scope: Scope::new(alloc, text, extensions),
         types: Types::none(alloc),
         structs: Vec::new(alloc),
-        variables: Vec::new(alloc),
-        overrides: Vec::new(alloc),
-        entry_points: Vec::new(alloc),
         faults,
         declared: Declared::none(alloc),
     };
-    match reader.read(&declarations) {
-        Ok(listed) => Ok(reader.finished(listed)),
+    let mut others = Others::none(alloc);
+    match reader.read(&declarations, &mut others) {
+        Ok(listed) => Ok(reader.finished(listed, others)),
         Err(e) => {
             drop(reader);
             Err(e)
@@ -122,8 +122,13 @@ pub fn read_module<'t>(
 
 impl<'t> Reader<'t> {
     /// Reads the declarations.
-    fn read(&mut self, declarations: &[Declaration<'t>]) -> Result<Listed<'t>, AllocError>
+    fn read(
+        &mut self,
+        declarations: &[Declaration<'t>],
+        others: &mut Others<'t>,
+    ) -> Result<Listed<'t>, AllocError>
         ensures keeps { OnOk result (Keeps (KnownAll declarations.now) self.old self.new) }
+        ensures others { OnOk result (AddsOthers self.new.scope.text (self.new.faults.items ≢ []) declarations.now others.old others.new) }
         ensures listed { IfOk result (λ l. AreListed self.new.scope.text self.new.structs.items declarations.now l.in_text.items (names_of l)) }
     {
         if has_byte_order_mark(self.scope.text.text.as_bytes()) {
@@ -134,14 +139,15 @@ impl<'t> Reader<'t> {
         }
         self.name_all(declarations)?;
         self.read_ordered(declarations)?;
-        self.read_others(declarations)?;
-        self.faults.sort_unstable_by_key(|fault| fault.at);
-        self.faults.dedup();
+        self.read_others(declarations, others)?;
+        sort(&mut self.faults);
         self.types.naga_only.sort_unstable_by_key(|fault| fault.at);
         self.list_types(declarations)
     }
 
-    fn finished(self, listed: Listed<'t>) -> Module<'t>
+    fn finished(self, listed: Listed<'t>, others: Others<'t>) -> Module<'t>
+        ensures variables { result.variables ≡ others.entry.variables }
+        ensures faults { result.faults ≡ self.entry.faults }
         ensures elements { result.elements ≡ self.entry.types.elements }
         ensures structs { result.structs ≡ self.entry.structs }
         ensures in_text { result.in_text ≡ listed.entry.in_text }
@@ -151,13 +157,15 @@ impl<'t> Reader<'t> {
             scope,
             types,
             structs,
-            variables,
-            overrides,
-            entry_points,
             faults,
             declared,
             ..
         } = self;
+        let Others {
+            variables,
+            overrides,
+            entry_points,
+        } = others;
         let Listed {
             in_text,
             aliases,
@@ -284,42 +292,36 @@ impl<'t> Reader<'t> {
     }
 
     /// Reads variables, overrides and functions in the order of the text.
-    fn read_others(&mut self, declarations: &[Declaration<'t>]) -> Result<(), AllocError>
+    fn read_others(
+        &mut self,
+        declarations: &[Declaration<'t>],
+        others: &mut Others<'t>,
+    ) -> Result<(), AllocError>
         ensures keeps { OnOk result (Keeps (KnownAll declarations.now) self.old self.new) }
         ensures scope { OnOk result (self.new.scope ≡ self.old.scope) }
+        ensures others { OnOk result (AddsOthers self.old.scope.text (self.new.faults.items ≢ []) declarations.now others.old others.new) }
     {
         for declaration in declarations {
-            if !declaration.is_faulty {
-                let read = self.read_other(declaration);
-                self.tell(read)?;
-            }
+            self.read_other(declaration, others)?;
         }
         Ok(())
     }
 
-    #[tactic(auto, using(crate::proofs::Structs::keeps_grown))]
-    fn read_other(&mut self, declaration: &Declaration<'t>) -> Result<(), Stop>
-        ensures keeps { Keeps Nothing self.old self.new }
-        ensures scope { self.new.scope ≡ self.old.scope }
+    fn read_other(
+        &mut self,
+        declaration: &Declaration<'t>,
+        others: &mut Others<'t>,
+    ) -> Result<(), AllocError>
+        ensures keeps { OnOk result (Keeps Nothing self.old self.new) }
+        ensures scope { OnOk result (self.new.scope ≡ self.old.scope) }
+        ensures others { OnOk result (AddsOthers self.old.scope.text (self.new.faults.items ≢ []) (declaration.now ∷ []) others.old others.new) }
+        ensures still { OnOk result (self.old.faults.items ≢ [] → self.new.faults.items ≢ []) }
     {
-        match declaration.kind {
-            DeclarationKind::Variable => {
-                if let Some(variable) = self.scope.read_variable(&mut self.types, declaration)? {
-                    self.variables.push(variable)?;
-                }
-            }
-            DeclarationKind::Override => {
-                let read = self.scope.read_override(&mut self.types, declaration)?;
-                self.overrides.push(read)?;
-            }
-            DeclarationKind::Function => {
-                if let Some(entry_point) = self.scope.read_function(declaration)? {
-                    self.entry_points.push(entry_point)?;
-                }
-            }
-            DeclarationKind::Alias | DeclarationKind::Struct | DeclarationKind::Constant => {}
+        if declaration.is_faulty {
+            return Ok(());
         }
-        Ok(())
+        let read = others.read(&self.scope, &mut self.types, declaration);
+        tell(&mut self.faults, read)
     }
 
     fn read_unread(&mut self, index: usize, declaration: &Declaration<'t>) -> Result<(), AllocError>
@@ -341,7 +343,7 @@ impl<'t> Reader<'t> {
             }
             Err(stop) => {
                 self.mean(index, Meaning::Faulty);
-                self.tell(Err(stop))
+                tell(&mut self.faults, Err(stop))
             }
         }
     }
@@ -358,18 +360,6 @@ impl<'t> Reader<'t> {
             DeclarationKind::Alias => self.read_alias(declaration),
             DeclarationKind::Struct => self.read_struct(declaration),
             DeclarationKind::Constant => self.read_constant(declaration),
-        }
-    }
-
-    /// Records the fault at which reading stopped.
-    fn tell(&mut self, read: Result<(), Stop>) -> Result<(), AllocError>
-        ensures same { SameStructs self.old self.new }
-        ensures scope { self.new.scope ≡ self.old.scope }
-    {
-        match read {
-            Err(Stop::Fault(fault)) => Ok(self.faults.push(fault)?),
-            Err(Stop::Memory(e)) => Err(e),
-            Ok(()) | Err(Stop::Elsewhere) => Ok(()),
         }
     }
 

@@ -1,7 +1,10 @@
 // What the events of a type or a value say.
-ghost use Rattle.std.specs.Prelude.{◌≡◌};
+ghost use Rattle.std.specs.Prelude.{◌≡◌, IfOk, None, OnOk, false};
+ghost use Rattle.wgsl_spelling.specs.Words.{word};
 ghost use Rattle.wgsl_source.specs.Declarations.{first_count, token_before};
 ghost use Rattle.wgsl_source.specs.Members.{Grows};
+ghost use Rattle.wgsl_source.specs.declared.item.Content.TheVariants.{Name};
+ghost use Rattle.wgsl_source.specs.internal.Items.{behind_event, behind_events, is_name, item_names, with_last};
 
 use crate::fault::{Cause, Expected, Named, Stop};
 use crate::item::{Content, Item, behind_sign, cut};
@@ -60,7 +63,8 @@ impl<'t> Scope<'t> {
         items: &mut Vec<Item>,
         events: &[Event],
     ) -> Result<(), Stop>
-        ensures { Grows types.old types.new }
+        ensures grows { Grows types.old types.new }
+        ensures names { OnOk result (item_names items.new.items ≡ behind_events self.now.text events.now (item_names items.old.items)) }
     {
         for event in events {
             self.step(types, items, *event)?;
@@ -69,11 +73,30 @@ impl<'t> Scope<'t> {
     }
 
     fn step(&self, types: &mut Types, items: &mut Vec<Item>, event: Event) -> Result<(), Stop>
-        ensures { Grows types.old types.new }
+        ensures grows { Grows types.old types.new }
+        ensures names { OnOk result (item_names items.new.items
+            ≡ behind_event event.mark (token_before self.now.text event.at) (item_names items.old.items)) }
     {
         let token = self.text.token_before(event.at);
         match event.mark {
             Mark::Name => push(items, token, Content::Name),
+            Mark::Value => Ok(()),
+            mark => self.step_further(types, items, mark, token),
+        }
+    }
+
+    /// Reads an event of another kind than a name.
+    fn step_further(
+        &self,
+        types: &mut Types,
+        items: &mut Vec<Item>,
+        mark: Mark,
+        token: Token,
+    ) -> Result<(), Stop>
+        ensures grows { Grows types.old types.new }
+        ensures no_name { OnOk result (item_names items.new.items ≡ None) }
+    {
+        match mark {
             Mark::OpenTemplate | Mark::Operator | Mark::Open | Mark::OpenElement => {
                 push(items, token, Content::Sign(token.kind))
             }
@@ -86,7 +109,6 @@ impl<'t> Scope<'t> {
             Mark::Call => self.close_call(items, token),
             Mark::Unary => self.close_unary(items),
             Mark::Binary => self.close_binary(items),
-            Mark::Value => Ok(()),
             Mark::MemberOf => self.close_member(items, token),
             Mark::Element => self.close_element(items),
             _ => self.close_part(items),
@@ -103,7 +125,8 @@ impl<'t> Scope<'t> {
 
     /// Ends a template list.
     fn close_list(&self, types: &mut Types, items: &mut Vec<Item>, token: Token) -> Result<(), Stop>
-        ensures { Grows types.old types.new }
+        ensures grows { Grows types.old types.new }
+        ensures no_name { OnOk result (item_names items.new.items ≡ None) }
     {
         let first = behind_sign(items, Kind::OpenTemplate);
         let name = callee(items, first, token)?;
@@ -113,7 +136,9 @@ impl<'t> Scope<'t> {
     }
 
     /// Ends a call.
-    fn close_call(&self, items: &mut Vec<Item>, token: Token) -> Result<(), Stop> {
+    fn close_call(&self, items: &mut Vec<Item>, token: Token) -> Result<(), Stop>
+        ensures { OnOk result (item_names items.new.items ≡ None) }
+    {
         let first = behind_sign(items, Kind::OpenRound);
         let name = callee(items, first, token)?;
         let value = self.called(name, behind(items, first))?;
@@ -122,20 +147,26 @@ impl<'t> Scope<'t> {
     }
 
     /// Replaces the last item by its value.
-    fn settle(&self, items: &mut Vec<Item>) -> Result<(), Stop> {
+    fn settle(&self, items: &mut Vec<Item>) -> Result<(), Stop>
+        ensures { OnOk result (item_names items.new.items ≡ None) }
+    {
         let item = self.pop(items)?;
         let value = self.value_of(item)?;
         push(items, item.token, Content::Value(value))
     }
 
-    fn close_unary(&self, items: &mut Vec<Item>) -> Result<(), Stop> {
+    fn close_unary(&self, items: &mut Vec<Item>) -> Result<(), Stop>
+        ensures { OnOk result (item_names items.new.items ≡ None) }
+    {
         let operand = self.pop(items)?;
         let operator = self.pop(items)?;
         let value = self.value_of(operand)?;
         put(items, operator, unary(sign_of(operator), value), operator)
     }
 
-    fn close_binary(&self, items: &mut Vec<Item>) -> Result<(), Stop> {
+    fn close_binary(&self, items: &mut Vec<Item>) -> Result<(), Stop>
+        ensures { OnOk result (item_names items.new.items ≡ None) }
+    {
         let right = self.pop(items)?;
         let operator = self.pop(items)?;
         let left = self.pop(items)?;
@@ -149,14 +180,18 @@ impl<'t> Scope<'t> {
     }
 
     /// Ends a component, whose letter is a token.
-    fn close_member(&self, items: &mut Vec<Item>, letter: Token) -> Result<(), Stop> {
+    fn close_member(&self, items: &mut Vec<Item>, letter: Token) -> Result<(), Stop>
+        ensures { OnOk result (item_names items.new.items ≡ None) }
+    {
         let item = self.pop(items)?;
         let value = self.value_of(item)?;
         put(items, item, member(value, self.text.word(letter)), item)
     }
 
     /// Ends an element.
-    fn close_element(&self, items: &mut Vec<Item>) -> Result<(), Stop> {
+    fn close_element(&self, items: &mut Vec<Item>) -> Result<(), Stop>
+        ensures { OnOk result (item_names items.new.items ≡ None) }
+    {
         let index = self.pop(items)?;
         self.pop(items)?;
         let item = self.pop(items)?;
@@ -165,7 +200,9 @@ impl<'t> Scope<'t> {
     }
 
     /// Ends what isn't evaluated here.
-    fn close_part(&self, items: &mut Vec<Item>) -> Result<(), Stop> {
+    fn close_part(&self, items: &mut Vec<Item>) -> Result<(), Stop>
+        ensures { OnOk result (item_names items.new.items ≡ None) }
+    {
         let item = self.pop(items)?;
         match self.value_of(item)? {
             Value::Later => Err(item.stop(Cause::KnownLater)),
@@ -191,7 +228,7 @@ impl<'t> Scope<'t> {
             Content::Value(value) => Ok(value),
             Content::Name => match self.meaning(self.text.word(item.token)) {
                 Some(Meaning::Value(value)) => Ok(value),
-                Some(Meaning::Faulty | Meaning::Unread) => Err(Stop::Elsewhere),
+                Some(Meaning::Faulty | Meaning::Unread) => Err(item.elsewhere()),
                 Some(Meaning::NoValue(fault)) => Err(Stop::Fault(fault)),
                 Some(Meaning::Type(_) | Meaning::Other) => Err(item.stop(Cause::NotInteger)),
                 None => Err(item.stop(Cause::UnknownName(Named::Value))),
@@ -212,7 +249,10 @@ impl<'t> Scope<'t> {
     }
 
     /// Takes the name of an enumerant. It is none if the module declares that name.
-    pub fn enumerant(&self, item: Item, expected: Expected) -> Result<&'t str, Stop> {
+    pub fn enumerant(&self, item: Item, expected: Expected) -> Result<&'t str, Stop>
+        ensures name { IfOk result (λ text. item.content ≡ Name) }
+        ensures text { IfOk result (λ text. text.now ≡ word self.now.text.text.now item.token) }
+    {
         let word = self.text.word(item.token);
         match item.content {
             Content::Name => match self.meaning(word) {
@@ -234,7 +274,10 @@ pub fn first_count(events: &[Event]) -> usize
     }
 }
 
-fn push(items: &mut Vec<Item>, token: Token, content: Content) -> Result<(), Stop> {
+fn push(items: &mut Vec<Item>, token: Token, content: Content) -> Result<(), Stop>
+    ensures name { content ≡ Name → OnOk result (item_names items.new.items ≡ with_last token (item_names items.old.items)) }
+    ensures no_name { is_name content ≡ false → OnOk result (item_names items.new.items ≡ None) }
+{
     items.push(Item { token, content })?;
     Ok(())
 }
@@ -245,7 +288,9 @@ fn put(
     first: Item,
     value: Result<Value, Cause>,
     at: Item,
-) -> Result<(), Stop> {
+) -> Result<(), Stop>
+    ensures { OnOk result (item_names items.new.items ≡ None) }
+{
     match value {
         Ok(value) => push(items, first.token, Content::Value(value)),
         Err(cause) => Err(at.stop(cause)),

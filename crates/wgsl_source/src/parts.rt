@@ -1,6 +1,6 @@
 // The parts of a declaration: slices of its events.
 ghost use Rattle.std.specs.Prelude.{◌≡◌, ◌≢◌, ◌+◌, [], ◌∷◌, ◌<◌, ◌≤◌, ◌^◌, IfSome, MatchOption, drop, length, slice_get, take};
-ghost use Rattle.wgsl_source.specs.Declarations.{BehindAttributes, attribute_len, diagnostic_len, end_of, inner, is_diagnostic, is_diagnostic_mark, is_end, len_to, list_len, unclosed_behind, unclosed_len};
+ghost use Rattle.wgsl_source.specs.Declarations.{BehindAttributes, attribute_len, diagnostic_len, end_of, inner, is_diagnostic, is_diagnostic_mark, is_end, len_to, list_len, unclosed_behind, unclosed_len, without_last};
 
 use wgsl_reader::mark::Mark;
 use wgsl_reader::read::Event;
@@ -138,16 +138,15 @@ pub fn split_attribute<'e>(events: &'e [Event]) -> Option<Split<'e>>
     }
 }
 
-/// The attributes in front.
-pub fn split_attributes<'e>(events: &'e [Event]) -> Split<'e>
-    ensures { BehindAttributes events.now result.rest.now }
+/// The events behind the attributes in front.
+pub fn behind_attributes<'e>(events: &'e [Event]) -> &'e [Event]
+    ensures { BehindAttributes events.now result.now }
 {
     let mut rest = events;
     while let Some(split) = split_attribute(rest) {
         rest = split.rest;
     }
-    let front = split_at(events, events.len().saturating_sub(rest.len())).front;
-    Split { front, rest }
+    rest
 }
 
 /// The argument in front, with its `Argument`, if there is one.
@@ -221,7 +220,9 @@ fn unclosed_behind(lists: usize, mark: Mark) -> usize
 }
 
 /// The declared type behind a name, with its `Typed`; nothing if none is declared.
-pub fn split_typed<'e>(events: &'e [Event]) -> Split<'e> {
+pub fn split_typed<'e>(events: &'e [Event]) -> Split<'e>
+    ensures { result.front.now ≡ take (len_to End.Typed events.now) events.now }
+{
     split_at(events, len_to(events, End::Typed))
 }
 
@@ -259,7 +260,9 @@ pub fn split_first<'e>(events: &'e [Event]) -> Option<(Event, &'e [Event])>
 }
 
 /// The events without the last one.
-pub fn without_last<'e>(events: &'e [Event]) -> &'e [Event] {
+pub fn without_last<'e>(events: &'e [Event]) -> &'e [Event]
+    ensures { result.now ≡ without_last events.now }
+{
     match events {
         [rest @ .., _] => rest,
         [] => events,

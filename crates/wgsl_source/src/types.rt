@@ -1,8 +1,9 @@
 // Types, as a module writes them.
-ghost use Rattle.std.specs.Prelude.{◌≡◌, IfOk, Some, slice_get};
+ghost use Rattle.std.specs.Prelude.{◌≡◌, IfOk, Some, false, slice_get};
 ghost use Rattle.wgsl_rules.specs.layout.Layout.{IsExactly};
 ghost use Rattle.wgsl_source.specs.Measures.{IsArrayAmong};
 ghost use Rattle.wgsl_source.specs.Members.{Grows, IsLeastSize};
+ghost use Rattle.wgsl_source.specs.internal.Items.{NamesSpace, is_name};
 
 use crate::check::element_fault;
 use crate::fault::{Cause, Expected, Fault, Named, Stop};
@@ -119,11 +120,12 @@ impl<'t> Scope<'t> {
         name: Item,
         parameters: &[Item],
     ) -> Result<Content, Stop>
-        ensures { Grows types.old types.new }
+        ensures grows { Grows types.old types.new }
+        ensures no_name { IfOk result (λ content. is_name content ≡ false) }
     {
         let word = self.text.word(name.token);
         match self.meaning(word) {
-            Some(Meaning::Faulty | Meaning::Unread) => Err(Stop::Elsewhere),
+            Some(Meaning::Faulty | Meaning::Unread) => Err(name.elsewhere()),
             Some(_) => Err(name.stop(Cause::NeedlessList)),
             None if word == "bitcast" => self.bitcast(types, parameters),
             None if predeclared(word).is_none() => Ok(Content::Function),
@@ -140,7 +142,8 @@ impl<'t> Scope<'t> {
     }
 
     fn bitcast(&self, types: &mut Types, parameters: &[Item]) -> Result<Content, Stop>
-        ensures { Grows types.old types.new }
+        ensures grows { Grows types.old types.new }
+        ensures no_name { IfOk result (λ content. is_name content ≡ false) }
     {
         match parameters {
             [of] => {
@@ -256,7 +259,8 @@ impl<'t> Scope<'t> {
 
     /// An address space.
     pub fn space(&self, types: &mut Types, item: Item) -> Result<AddressSpace, Stop>
-        ensures { Grows types.old types.new }
+        ensures grows { Grows types.old types.new }
+        ensures named { IfOk result (NamesSpace self.now.text item) }
     {
         let name = self.enumerant(item, Expected::AddressSpace)?;
         if name == "push_constant" && !self.extensions.naga {
@@ -304,7 +308,7 @@ fn binding_array(
 fn declared_type(meaning: Meaning, name: Item) -> Result<MeasuredType, Stop> {
     match meaning {
         Meaning::Type(ty) => Ok(ty),
-        Meaning::Faulty | Meaning::Unread => Err(Stop::Elsewhere),
+        Meaning::Faulty | Meaning::Unread => Err(name.elsewhere()),
         Meaning::Value(_) | Meaning::NoValue(_) | Meaning::Other => Err(name.stop(Cause::Expected(
             Expected::Type,
         ))),

@@ -1,5 +1,10 @@
 // Variables of a module.
+ghost use Rattle.std.specs.Prelude.{◌≡◌, [], ◌∷◌, IfOk, MatchOption};
+ghost use Rattle.wgsl_source.specs.Declarations.{declared_type};
 ghost use Rattle.wgsl_source.specs.Members.{Grows};
+ghost use Rattle.wgsl_source.specs.Qualifiers.{AreSaid, IsQualified};
+ghost use Rattle.wgsl_source.specs.internal.Items.{item_names};
+ghost use Rattle.wgsl_source.specs.internal.Others.{IsVariableFrom};
 
 use crate::attribute::Owner;
 use crate::declaration::Declaration;
@@ -7,7 +12,7 @@ use crate::fault::{Cause, Expected, Stop};
 use crate::initialized::Initialized;
 use crate::item::Item;
 use crate::measured::{Count, MeasuredType, TypeKind};
-use crate::parts::{split_first, without_last};
+use crate::parts::inner;
 use crate::scope::Scope;
 use crate::types::Types;
 use wgsl_reader::read::Event;
@@ -33,7 +38,9 @@ impl<'t> Scope<'t> {
         types: &mut Types,
         declaration: &Declaration<'t>,
     ) -> Result<Option<Variable<'t>>, Stop>
-        ensures { Grows types.old types.new }
+        ensures grows { Grows types.old types.new }
+        ensures read { IfOk result (λ v. MatchOption v (declared_type declaration.now.rest.now ≡ [])
+            (IsVariableFrom self.now.text declaration.now)) }
     {
         let (attributes, _) = self.read_attributes(declaration.attributes, Owner::Variable)?;
         let (space, access) = self.read_qualifiers(types, declaration)?;
@@ -83,13 +90,11 @@ impl<'t> Scope<'t> {
         types: &mut Types,
         declaration: &Declaration<'t>,
     ) -> Result<(AddressSpace, AccessMode), Stop>
-        ensures { Grows types.old types.new }
+        ensures grows { Grows types.old types.new }
+        ensures qualified { IfOk result (λ q. IsQualified self.now.text declaration.now.list.now q.0 q.1) }
     {
-        let Some((_, list)) = split_first(declaration.list) else {
-            return Ok((AddressSpace::Handle, AccessMode::Read));
-        };
         let mut items = Vec::new(self.alloc);
-        self.read_all(types, &mut items, without_last(list))?;
+        self.read_all(types, &mut items, inner(declaration.list))?;
         self.qualifiers(types, &items)
     }
 
@@ -99,16 +104,29 @@ impl<'t> Scope<'t> {
         types: &mut Types,
         items: &[Item],
     ) -> Result<(AddressSpace, AccessMode), Stop>
-        ensures { Grows types.old types.new }
+        ensures grows { Grows types.old types.new }
+        ensures said { IfOk result (λ q. AreSaid self.now.text (item_names items.now) q.0 q.1) }
     {
-        let [first, rest @ ..] = items else {
-            return Ok((AddressSpace::Handle, AccessMode::Read));
-        };
-        let space = self.space(types, *first)?;
+        match items {
+            [] => Ok((AddressSpace::Handle, AccessMode::Read)),
+            [first, rest @ ..] => self.qualifiers_from(types, *first, rest),
+        }
+    }
+
+    fn qualifiers_from(
+        &self,
+        types: &mut Types,
+        first: Item,
+        rest: &[Item],
+    ) -> Result<(AddressSpace, AccessMode), Stop>
+        ensures grows { Grows types.old types.new }
+        ensures said { IfOk result (λ q. AreSaid self.now.text (item_names (first ∷ rest.now)) q.0 q.1) }
+    {
+        let space = self.space(types, first)?;
         if space == AddressSpace::Function {
             return Err(first.stop(Cause::Expected(Expected::AddressSpace)));
         }
-        let access = self.memory_access(space, rest, *first)?;
+        let access = self.memory_access(space, rest, first)?;
         Ok((space, access))
     }
 }

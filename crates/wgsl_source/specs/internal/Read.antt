@@ -35,6 +35,8 @@ pub record IsNext (t : Text) (events : List Event) (r : Read) : Type 0 where
   pub site : Site
   pub there : IsSite t events site
   pub kind : r.kind ≡ declared_by (end_at t site.first)
+  pub attributes : r.attributes.now ≡ site.attributes
+  pub list : r.list.now ≡ take (list_len site.list) site.list
   pub count : r.named ≡ first_count site.first
   pub read : r.events.now ≡ take (declaration_len t site.first) site.first
   pub behind : r.behind.now ≡ drop (declaration_len t site.first) site.first
@@ -50,6 +52,8 @@ pub record IsOf (t : Text) (site : Site) (d : Declaration) : Type 0 where
   pub kind : declared_by (end_at t site.first) ≡ Some d.kind
   pub readable : d.is_faulty ≡ false
   pub named : IsNamed t site.first d.name.now d.place
+  pub attributes : d.attributes.now ≡ site.attributes
+  pub list : d.list.now ≡ take (list_len site.list) site.list
   pub rest : d.rest.now ≡ inner (take (declaration_len t site.first) site.first)
 
 -- one that can't be read, whose name stands in the text

@@ -11,7 +11,7 @@ returns-in_ok-push-in-Some c =
     λ events next. record {
       added = _;
       kept = c.in_ok-push-in-Some.ensures.items;
-      are = declaration (is_of t events c.args.read _ next c.in-Some.is refl (c.word.ensures ∙ ap (word t.text.now) token) (ap (λ t. t.at) token) c.inner.ensures) no_other;
+      are = declaration (is_of t events c.args.read _ next c.in-Some.is refl (c.word.ensures ∙ ap (word t.text.now) token) (ap (λ t. t.at) token) refl refl c.inner.ensures) no_other;
     }
 
 pub returns-in_ok-push-in-None : goal.returns-in_ok-push-in-None

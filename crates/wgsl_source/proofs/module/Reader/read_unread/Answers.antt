@@ -1,3 +1,4 @@
+use Rattle.std.proofs.Common.{refl}
 use Rattle.wgsl_source.specs.internal.Read.{Known, KnownStruct}
 use Rattle.wgsl_source.proofs.Meanings.{kept_at, means_further, means_read, means_same}
 use Rattle.wgsl_source.proofs.Structs.{keeps_further, keeps_if, keeps_same, on_ok}
@@ -27,7 +28,7 @@ returns-in-Err-clause-keeps c =
     let meant = c.mean-in-Err.new.self in
     let kept = keeps_further (Known d) old read meant (keeps_if (Known d) (KnownStruct d) old read (λ whole known. known c.if-declaration.false) c.in-Err.ensures.keeps)
     (keeps_same (Known d) read meant c.mean-in-Err.ensures.same) in
-    on_ok c.tell.result _ (keeps_further (Known d) old meant c.tell.new.self kept (keeps_same (Known d) meant c.tell.new.self c.tell.ensures.same))
+    on_ok c.tell.result _ (keeps_further (Known d) old meant _ kept (keeps_same (Known d) meant _ (refl, refl, refl)))
 
 pub returns-in-Err-clause-means : goal.returns-in-Err-clause-means
 returns-in-Err-clause-means c = λ ds at.
@@ -35,5 +36,5 @@ returns-in-Err-clause-means c = λ ds at.
     let old = c.args.self.now in
     let read = c.read_meaning.new.self in
     let meant = c.mean-in-Err.new.self in
-    on_ok c.tell.result _ (means_further ds old read c.tell.new.self (means_read ds (KnownStruct d) old read c.in-Err.ensures.keeps c.in-Err.ensures.scope)
-    (means_further ds read meant c.tell.new.self (c.mean-in-Err.ensures.means ds (λ e is. tt)) (means_same ds meant c.tell.new.self c.tell.ensures.same c.tell.ensures.scope)))
+    on_ok c.tell.result _ (means_further ds old read _ (means_read ds (KnownStruct d) old read c.in-Err.ensures.keeps c.in-Err.ensures.scope)
+    (means_further ds read meant _ (c.mean-in-Err.ensures.means ds (λ e is. tt)) (means_same ds meant _ (refl, refl, refl) refl)))

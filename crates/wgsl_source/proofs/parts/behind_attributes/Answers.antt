@@ -1,6 +1,6 @@
 use Rattle.wgsl_source.specs.Declarations.{no_attribute}
 use Rattle.wgsl_source.proofs.Declarations.{behind_one_more}
-use Rattle.wgsl_source.proofs.parts.split_attributes.Goals as goal
+use Rattle.wgsl_source.proofs.parts.behind_attributes.Goals as goal
 
 pub loop-split-preserved : goal.loop-split-preserved
 loop-split-preserved c =

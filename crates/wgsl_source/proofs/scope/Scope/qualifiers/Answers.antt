@@ -1,0 +1,8 @@
+use Rattle.std.proofs.Common.{[], ap, arith}
+use Rattle.std.proofs.lemmas.List.{nil_from_length}
+use Rattle.wgsl_source.specs.Qualifiers.{nothing}
+use Rattle.wgsl_source.specs.internal.Items.{item_names}
+use Rattle.wgsl_source.proofs.scope.Scope.qualifiers.Goals as goal
+
+pub returns-in-empty-clause-said : goal.returns-in-empty-clause-said
+returns-in-empty-clause-said c = record { tokens = []; there = ap item_names (nil_from_length c.args.items.now (omega (arith, c.in-empty.len_below))); say = nothing }

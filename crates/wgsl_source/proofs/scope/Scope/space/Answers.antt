@@ -1,0 +1,10 @@
+use Rattle.std.proofs.Common.{subst}
+use Rattle.wgsl_syntax.specs.Address.{IsSpace}
+use Rattle.wgsl_syntax.specs.declared.rules.RuleSet.TheVariants.{Standard}
+use Rattle.wgsl_source.proofs.scope.Scope.space.Goals as goal
+
+pub returns-in-Some-clause-named : goal.returns-in-Some-clause-named
+returns-in-Some-clause-named c = record {
+  name = c.in_ok-name.ensures.name;
+  text = subst (λ text. IsSpace Standard text c.in-Some.space) c.in_ok-name.ensures.text c.in-Some.ensures;
+}
