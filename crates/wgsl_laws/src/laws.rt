@@ -17,7 +17,6 @@ pub fn every_request_has_an_answer()
 {}
 
 /// A request has at most one answer.
-#[tactic(auto, using(wgsl_requests::proofs::OneAnswer::answer_once))]
 pub fn no_request_has_two_answers()
     ensures { (request : WgslRequest) (a b : WgslAnswer)
         → Answers request a → Answers request b → a ≡ b }
