@@ -50,17 +50,6 @@ async function measurePackage() {
   console.log(`10,000 layouts, each by a call of \`layouts\`: ${ms(timed(3, () => many.forEach((text) => layouts(text))))}; all in one text: ${ms(timed(3, () => layouts(many.join("\n"))))}`);
   const struct = layouts(many[0]).structs[0], made = view(struct), value = { a: [1, 2, 3], b: [[1, 2], [3, 4], [5, 6]], c: [[1, 2, 3], [4, 5, 6], [7, 8, 9]], d: 1 };
   console.log(`set and get of 19 numbers: ${(timed(5, () => { for (let count = 0; count < 1000; count++) made.set(value), made.get(); })).toFixed(2)} µs`);
-  await measureOthers(many);
-}
-
-/** The same by packages that others use, if a copy is at hand. */
-async function measureOthers(texts) {
-  const others = { "webgpu-utils": (module, text) => module.makeShaderDataDefinitions(text), wgsl_reflect: (module, text) => new module.WgslReflect(text) };
-  for (const [name, call] of Object.entries(others)) {
-    const module = await import(name).catch(() => null);
-    if (module === null) console.log(`${name}: no copy is at hand`);
-    else console.log(`10,000 layouts by ${name}: ${ms(timed(3, () => texts.forEach((text) => call(module, text))))}`);
-  }
 }
 
 async function measureStart(browser, address) {
@@ -73,7 +62,7 @@ async function measureStart(browser, address) {
     ready.push(mark);
     await page.call("Page.close");
   }
-  console.log(`the page from a file: first picture after ${ms(middle(shown))}, first answer after ${ms(middle(ready))}`);
+  console.log(`the page from a file: first picture after ${ms(middle(shown))}, all of it after ${ms(middle(ready))}`);
 }
 
 /** The processor time of the script on the page's main thread so far, to which other programs on the machine add nothing. */

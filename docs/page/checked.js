@@ -1,4 +1,5 @@
 // What is known of the text. A worker finds it: after a key it is old for a while, and stands where the text has moved to.
+import { declaredNames } from "page/wgsl";
 import { compiledModule } from "wgsl/calls";
 
 const worker = new Worker(import.meta.resolve("page/worker"), { type: "module" }), waiting = [];
@@ -6,7 +7,7 @@ let wanted = null, isBusy = false;
 
 /** What was found last, with its text. */
 export let last = {
-  text: "", structs: [], variables: [], errors: [], findings: [], names: [], faults: [], lets: [], kinds: [], parts: [],
+  text: "", structs: [], variables: [], errors: [], findings: [], faults: [], lets: [], kinds: [], parts: [],
   broken: { count: 0, structs: [] }, isBroken: false, foreign: null,
 };
 
@@ -71,14 +72,11 @@ export function problemsOf(text) {
   return { errors: [...errors.map(withNotes), ...others].sort((a, b) => a.index - b.index), findings: findings.map(withNotes) };
 }
 
-/** Whether a request has a name that the text declares. */
-export function namesShader(request) {
+/** Whether a request has a name that a text declares. */
+export function namesShader(request, text) {
   const words = new Set(request.split(/[^\p{XID_Continue}]+/u));
-  return last.names.some(({ name }) => words.has(name));
+  return declaredNames(text).some(({ name }) => words.has(name));
 }
-
-/** Where a text declares a name first. */
-export const declarationOf = (text, name) => moved(last.names, text).find((declared) => declared.name === name)?.index;
 
 /** The expressions of a text that a test accepts by where they start and end, the shortest first; none before it is checked. */
 function partsWhere(text, accepts) {

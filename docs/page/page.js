@@ -27,7 +27,7 @@ function whenChecked(isNewest) {
   tellProblems();
   tellCounts();
   showHints();
-  if (isNew || isAboutShader || namesShader(request.value)) ask();
+  if (isAboutShader || namesShader(request.value, source.value)) ask();
   if (isNewest) draw();
   performance.measure("checked", { start });
 }
@@ -121,20 +121,20 @@ function keyOf(struct, keys) {
   return key;
 }
 
-let shownVariables = "";
+let rows = new Map(); // of variables, by what they show beside their sizes
 
 function showVariables() {
-  const key = last.variables.map(({ name, type, group, binding, space, access, minBindingSize }) => [name, type, group, binding, space, access, minBindingSize]).join("\n");
-  if (key === shownVariables) return;
-  shownVariables = key;
-  at("variables").hidden = last.variables.length === 0;
   const cell = (n) => h("td", { className: n === null ? "none" : "number" }, n === null ? "–" : n.toLocaleString("en"));
-  const rows = last.variables.map((variable) => {
-    const { group, binding, minBindingSize } = variable;
-    const named = h("td", { className: "wide" }, ...typed(variable), h("span", { className: "space" }, `var${spaceOf(variable)}`));
-    return h("tr", {}, cell(group), cell(binding), named, cell(minBindingSize));
-  });
-  at("variables").querySelector("tbody").replaceChildren(...rows);
+  const newRow = (variable) => h("tr", {}, cell(variable.group), cell(variable.binding),
+    h("td", { className: "wide" }, ...typed(variable), h("span", { className: "space" }, `var${spaceOf(variable)}`)), h("td"));
+  const wanted = last.variables.map((variable, index) =>
+    [[index, variable.name, variable.type, variable.group, variable.binding, spaceOf(variable)].join("\n"), () => newRow(variable)]);
+  at("variables").hidden = wanted.length === 0;
+  rows = showKept(at("variables").querySelector("tbody"), rows, wanted);
+  for (const [index, row] of [...rows.values()].entries()) {
+    const size = cell(last.variables[index].minBindingSize);
+    if (!size.isEqualNode(row.lastChild)) row.lastChild.replaceWith(size);
+  }
 }
 
 // Code.
@@ -198,7 +198,7 @@ let asks = 0, isAboutShader = false;
 /** Answers at once, unless the request has names of the shader. */
 async function ask() {
   const number = ++asks, asked = request.value;
-  isAboutShader = namesShader(asked);
+  isAboutShader = namesShader(asked, source.value);
   at("answers").ariaBusy = String(isAboutShader);
   const answers = isAboutShader ? await answersIn(source.value, asked) : answersTo(asked);
   if (number !== asks) return;
@@ -251,6 +251,7 @@ function fill([text, asked = tries[0]]) {
   request.value = asked;
   isNew = true;
   read();
+  ask();
 }
 
 function addChoices() {

@@ -1,8 +1,9 @@
 // What stands at the pointer and at the caret: its type, what is wrong there, and where its name is declared.
 import { typed } from "page/card";
-import { declarationOf, isChecked, last, partAt, partEndingAt } from "page/checked";
+import { isChecked, last, partAt, partEndingAt } from "page/checked";
 import { coded, h } from "page/dom";
 import { goTo, notesOf, problemsAt } from "page/problems";
+import { declaredNames } from "page/wgsl";
 
 const at = (id) => document.getElementById(id), source = at("source"), tip = at("tip");
 const SHOWN = 40; // characters of an expression
@@ -67,7 +68,7 @@ function goToDeclaration(index) {
   const [name] = /^\p{XID_Continue}*/u.exec(text.slice(start)), before = text.slice(0, start).trimEnd(), end = start + name.length;
   const declared = before.endsWith(".")
     ? memberOf(partEndingAt(text, before.slice(0, -1).trimEnd().length)?.type, name)
-    : [partEndingAt(text, end, start)?.declared, declarationOf(text, name)].find((place) => place >= 0);
+    : [partEndingAt(text, end, start)?.declared, declaredNames(text).find((one) => one.name === name)?.index].find((place) => place >= 0);
   if (name && declared !== undefined) goTo({ index: declared, end: { index: declared + name.length } });
 }
 

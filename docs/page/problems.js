@@ -3,7 +3,8 @@ import { coded, h, showKept } from "page/dom";
 import { followColors, topOf } from "page/editor";
 
 const SHOWN_MARKS = 200, SHOWN_PROBLEMS = 100, SHOWN_NOTES = 3;
-const at = (id) => document.getElementById(id), source = at("source");
+const BEFORE = 48, BEFORE_ON_PHONES = 20; // characters of a line, in front of what is wrong there
+const at = (id) => document.getElementById(id), source = at("source"), phone = matchMedia("(max-width: 30rem)");
 let lineCount = 0, shown = [];
 let numbers = new Map(), marks = new Map(), items = new Map(); // what shows these, by what it shows
 let current = new Map(); // the messages of the items, as they stand now
@@ -65,7 +66,7 @@ export function problemsAt(index) {
 
 /** A button that leads to the place of an error or a finding. */
 export function problem(kind, message, { before, word, after } = placeOf(message), lead = () => goTo(message)) {
-  const cut = before.trimStart().slice(-48), caret = "^".padEnd(Math.max(1, [...word].length), "~");
+  const cut = before.trimStart().slice(phone.matches ? -BEFORE_ON_PHONES : -BEFORE), caret = "^".padEnd(Math.max(1, [...word].length), "~");
   const line = h("pre", { ariaHidden: "true" }, `${cut}${word}${after.slice(0, 60)}\n${cut.replace(/./gsu, " ")}`, h("b", {}, caret));
   return h("button", { type: "button", className: `problem ${kind}`, onclick: lead },
     h("span", { className: "kind" }, kind), " ", h("span", { className: "place" }, `${message.line}:${message.column}`), " ", ...coded(message.message), line);

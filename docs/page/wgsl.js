@@ -108,4 +108,4 @@ export function foreignOf(text) {
   return null;
 }
 
-const shown = (word) => word.replace(/\s+/g, " ").replace(/^[[\s]+|[\s([]+$/g, "");
+const shown = (word) => word.replace(/\s+/g, " ").replace(/^[[\s]+|[\s([\]]+$/g, "");

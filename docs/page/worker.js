@@ -1,6 +1,6 @@
 // A worker that reads and checks texts, so that a long one holds up no key. First it is sent the compiled module.
 import { SourceError, check, initSync, layouts, standardAnswer } from "wgsl/calls";
-import { declaredNames, foreignOf, leftOut, letsOf } from "page/wgsl";
+import { foreignOf, leftOut, letsOf } from "page/wgsl";
 
 onmessage = ({ data }) => {
   if (data instanceof WebAssembly.Module) return initSync(data);
@@ -20,12 +20,12 @@ function answered(call, text) {
   }
 }
 
-/** What a text declares, what it lays out, errors or not, which structs these leave out, and which other language it looks like. */
+/** What a text lays out, errors or not, which structs these leave out, and which other language it looks like. */
 function laidOut(text) {
   const told = answered(layouts, text), { structs = [], variables = [], errors = [], findings = [] } = told;
   const isBroken = errors.length > 0, isEmpty = structs.length + variables.length === 0;
   return {
-    structs, variables, errors, findings, isBroken, names: declaredNames(text),
+    structs, variables, errors, findings, isBroken,
     broken: isBroken ? leftOut(text, told) : { count: 0, structs: [] }, foreign: isBroken && isEmpty ? foreignOf(text) : null,
   };
 }

@@ -5,7 +5,7 @@ use std::slice::{from_raw_parts, from_raw_parts_mut};
 use wgsl_types_proved::library;
 
 macro_rules! export {
-    ($($name:ident($($more:ident: $type:ty)?): $call:path;)*) => {
+    ($($name:ident($($more:ident: $type:ty)?);)*) => {
         $(
             /// As `wgsl.h` says.
             ///
@@ -22,20 +22,20 @@ macro_rules! export {
                 $($more: $type,)?
             ) -> u8 {
                 let (request, buffer) = (from_raw_parts(request, request_len), from_raw_parts_mut(buffer, buffer_len));
-                $call(request, buffer, &mut *text_len $(, $more)?)
+                library::$name(library::Global, request, buffer, &mut *text_len $(, $more)?)
             }
         )*
     };
 }
 
 export! {
-    wgsl_answer(): library::answer;
-    wgsl_explain(): library::explain;
-    wgsl_standard_answer(): library::standard_answer;
-    wgsl_standard_explain(): library::standard_explain;
-    wgsl_source_layout(): library::source_layout;
-    wgsl_module_check(): library::module_check;
-    wgsl_source_code(language: u8): library::source_code;
+    wgsl_answer();
+    wgsl_explain();
+    wgsl_standard_answer();
+    wgsl_standard_explain();
+    wgsl_source_layout();
+    wgsl_module_check();
+    wgsl_source_code(language: u8);
 }
 
 const VERSION: &str = concat!(env!("CARGO_PKG_VERSION"), "\0");

@@ -17,8 +17,8 @@ const FUNCTIONS: [(&str, &[&str]); 5] = [
 ];
 
 /// Methods of std's types that have other parameters or results in Rattle, or that older compilers lack.
-const METHODS: &str =
-    "push push_str extend_from_slice insert to_string cast_signed cast_unsigned is_multiple_of";
+const METHODS: &str = "push push_str push_reserved extend_from_slice insert reserve to_string cast_signed cast_unsigned \
+    is_multiple_of";
 
 /// Methods of public types that only proofs need, or that have types which aren't public.
 const INTERNAL: &str =

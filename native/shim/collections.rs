@@ -38,7 +38,9 @@ functions! {
         fn rattle_new(_: Global) -> Self { Vec::new() }
         fn rattle_with_capacity(_: Global, capacity: usize) -> Made<Self> { Ok(Vec::with_capacity(capacity)) }
         fn rattle_push(&mut self, value: T) -> Made<()> { self.push(value); Ok(()) }
+        fn rattle_push_reserved(&mut self, value: T) -> () { self.push(value) }
         fn rattle_insert(&mut self, index: usize, value: T) -> Made<()> { self.insert(index, value); Ok(()) }
+        fn rattle_reserve(&mut self, count: usize) -> Made<()> { self.reserve(count); Ok(()) }
     }
 
     RattleExtend<T> for Vec<T>, [T: Copy] {

@@ -48,6 +48,9 @@ fn faults_have_places_and_codes() {
     assert!(json.ends_with("found `{`\"}],\"types\":[]}\n"), "{json}");
     let unread = "-:2:4: error: the text is not UTF-8 from here on\n";
     assert_eq!(printed(&["-"], 1, b"\nfn \xff"), unread);
+    let unread = printed(&["--json", "-"], 1, b"\nfn \xff");
+    let place = "\"line\":2,\"column\":4,\"utf16Column\":4";
+    assert!(unread.contains(&format!("{place},\"end\":{{{place}}}")), "{unread}");
     // No control character of a name reaches a terminal.
     let escape =
         "struct a\u{9b} { a: f32 } fn f(p: a\u{9b}) { let b: a\u{9b} = p; let c: d\u{9b} = 1; }"
@@ -151,10 +154,16 @@ fn standard_input_has_a_name() {
 #[test]
 fn misuse_is_told() {
     let rows: [(&[&str], &str); 7] = [
-        (&[], "there is no file"),
-        (&["--what", "-"], "there is no option --what"),
-        (&["--json", "--short", "-"], "another form is asked for beside --short"),
-        (&["--stdin-filename"], "there is no name behind --stdin-filename"),
+        (&[], "there is no file: see wgsl check --help\n"),
+        (&["--what", "-"], "there is no option --what: see wgsl check --help\n"),
+        (
+            &["--json", "--short", "-"],
+            "another form is asked for beside --short: see wgsl check --help\n",
+        ),
+        (
+            &["--stdin-filename"],
+            "there is no name behind --stdin-filename: see wgsl check --help\n",
+        ),
         (&["nowhere.wgsl"], "nowhere.wgsl can't be read"),
         (&["--", "--help"], "--help can't be read"),
         (&["nowhere.wgsl", "-"], "nowhere.wgsl can't be read"),

@@ -25,17 +25,33 @@ fn end(program: Program, arguments: &[&OsStr]) -> (Option<i32>, String, String) 
 
 #[test]
 fn other_arguments_are_refused() {
-    for program in PROGRAMS {
+    for (program, [name, what]) in
+        PROGRAMS.into_iter().zip([["wgsl_check", "commands"], ["wgsl", "requests"]])
+    {
+        let help = [&[name], program.1, &["--help"]].concat().join(" ");
+        let usage = format!(
+            "{name}: it takes no argument but --strict, and reads {what} from standard input: see {help}\n"
+        );
         assert_eq!(end(program, &[]), (Some(0), String::new(), String::new()));
         for word in ["-", "", "--", "--hel", "--Version", "size f32"] {
             let (status, output, notes) = end(program, &[OsStr::new(word)]);
             assert_eq!((status, output.as_str()), (Some(64), ""), "{word}");
-            assert!(notes.contains("--help") && notes.lines().count() == 1, "{word}: {notes}");
+            assert_eq!(notes, usage, "{word}");
         }
         for word in ["--help", "--version"].map(OsStr::new) {
             assert_eq!(end(program, &[word]).0, Some(0));
             assert_eq!(end(program, &[word, word]).0, Some(64));
         }
+    }
+}
+
+#[test]
+fn a_command_is_asked_for() {
+    let rows: [(&[&str], &str); 2] = [(&[], ""), (&["chek", "-"], " chek")];
+    for (words, word) in rows {
+        let (status, output, notes) = end((env!("CARGO_BIN_EXE_wgsl"), words), &[]);
+        assert_eq!((status, output.as_str()), (Some(2), ""), "{words:?}");
+        assert_eq!(notes, format!("wgsl: there is no command{word}: see wgsl --help\n"));
     }
 }
 

@@ -12,6 +12,7 @@ use json::Json;
 use random::Random;
 use serving::{at, framed, opened, range, Client};
 use std::fs;
+use std::io::Write;
 use std::ops::Range;
 use std::process::{Command, Stdio};
 use wgsl_types_proved::module::check;
@@ -238,17 +239,42 @@ fn sent(cell: &str) -> Vec<u8> {
 
 #[test]
 fn the_protocol_is_kept() {
+    let mut wrong = Vec::new();
     for [cell, answers, status] in tables::rows::<3>("tables/protocol.tsv") {
         let mut client = Client::spawn();
         client.write(&sent(&cell));
         let (messages, found) = client.rest();
-        let answered = messages.iter().map(|message| match &message["error"]["code"] {
+        let answered = messages.iter().map(|message| match &message["error"] {
             Json::Null => format!("{} -", message["id"]),
-            code => format!("{} {code}", message["id"]),
+            error => {
+                let told = error["message"].as_text().unwrap();
+                format!("{} {} {told}", message["id"], error["code"])
+            }
         });
         let answered = answered.collect::<Vec<_>>().join("; ");
-        assert_eq!(answered, answers.trim_start_matches('-'), "{cell}");
-        assert_eq!(found.map(|status| status.to_string()), Some(status), "{cell}");
+        let found = found.map(|status| status.to_string());
+        if answered != answers.trim_start_matches('-') || found.as_ref() != Some(&status) {
+            wrong.push(format!("{cell}\t{answered}\t{found:?}"));
+        }
+    }
+    assert!(wrong.is_empty(), "{}", wrong.join("\n"));
+}
+
+/// Why no message can be found is told.
+#[test]
+fn a_broken_header_is_told() {
+    for (input, told) in [
+        ("a: b\n", "no line of a header"),
+        ("a\r\n", "no field of a header"),
+        ("a: b\r\n\r\n", "no length of a message"),
+    ] {
+        let mut program = Command::new(env!("CARGO_BIN_EXE_wgsl"));
+        program.arg("serve").stdin(Stdio::piped()).stdout(Stdio::piped()).stderr(Stdio::piped());
+        let mut child = program.spawn().unwrap();
+        child.stdin.take().unwrap().write_all(input.as_bytes()).unwrap();
+        let done = child.wait_with_output().unwrap();
+        assert_eq!((done.status.code(), done.stdout.len()), (Some(1), 0), "{input:?}");
+        assert_eq!(String::from_utf8(done.stderr).unwrap(), format!("wgsl: serve: {told}\n"));
     }
 }
 
@@ -332,6 +358,13 @@ fn arguments_are_read() {
             "{words:?}"
         );
         assert_eq!(printed.contains("serve"), status == 0, "{words:?}");
+        if words[0] == "serve" && status == 0 {
+            assert!(printed.contains("2 for wrong arguments."), "{printed}");
+        }
+        if words[0] == "serve" && status == 2 {
+            let told = "wgsl: serve takes no other argument than --stdio: see wgsl serve --help\n";
+            assert_eq!(done.stderr, told.as_bytes());
+        }
         assert_eq!(done.stderr.is_empty(), status < 2, "{words:?}");
     }
 }

@@ -231,14 +231,22 @@ fn types_that_cannot_be_given_are_left_out() {
 
 #[test]
 fn code_is_written() {
-    for (language, start) in [
-        (Language::C, "#pragma once\n"),
-        (Language::Rust, "#[allow(non_camel_case_types, non_snake_case)]\n#[repr(C)]\n"),
-        (Language::Numpy, "import numpy\n"),
-        (Language::TypeScript, "export const structs = {\n  Light: {\n    size: 32, align: 16,\n"),
+    for (language, start, between) in [
+        (Language::C, "#pragma once\n", ", \"\");\n\nstruct Particles {\n"),
+        (
+            Language::Rust,
+            "#[allow(non_camel_case_types, non_snake_case)]\n#[repr(C)]\n",
+            ");\n\n#[allow(non_camel_case_types, non_snake_case)]\n",
+        ),
+        (Language::Numpy, "import numpy\n", "})\n\nParticles = numpy.dtype({\n"),
+        (
+            Language::TypeScript,
+            "export const structs = {\n  Light: {\n    size: 32, align: 16,\n",
+            "  },\n  Particles: {\n",
+        ),
     ] {
         let code = code(MODULE, language).unwrap();
-        assert!(code.starts_with(start) && code.contains("Particles"), "{code}");
+        assert!(code.starts_with(start) && code.contains(between), "{code}");
     }
     let error = code("struct A { a: B }\nstruct C { d: x }", Language::Rust).unwrap_err();
     assert_eq!(error.errors.len(), 2);

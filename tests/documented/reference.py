@@ -13,6 +13,7 @@ PAGE = os.path.join("docs", "REFERENCE.md")
 ITEM = re.compile(r"^\s*pub (?:const )?(struct|enum|trait|const|static|type) (\w+)")
 CLAUSE = re.compile(r"(requires|ensures)\*?\s*(\w*)\s*\{(.*)\}[;,]?$")
 GHOST = re.compile(r"ghost\s+(\w+)\s*[:=]\s*\{(.*)\};$")
+PASSED = re.compile(r"^pub use Rattle\.(\w+)\.specs\.([\w.]+)\.\{([^}]*)\}$", re.MULTILINE)
 CITED = re.compile(r"ghost use Rattle\.(\w+)\.specs\.([\w.]+)\.\{([^}]*)\};")
 DEFINED = re.compile(r"((?:^ *--.*\n)*)^ *(?:[a-z]+ )*pub (?:[a-z]+ )?(\w+)(?= |:|$)", re.MULTILINE)
 HEAD = """\
@@ -136,15 +137,32 @@ def owed(exported):
                     yield item
 
 
+def listed_as(names):
+    """The names of an import, each with the one that it has here."""
+    for name in names.split(","):
+        name, _, alias = name.strip().partition(" as ")
+        yield name, alias or name
+
+
+def declared(crate, module, name):
+    """The file of a definition, and its name there: a file may pass on what others declare. None if the repository has none."""
+    file = os.path.join("crates", crate, "specs", *module.split(".")) + ".antt"
+    if not os.path.exists(os.path.join(TOP, file)):
+        return None
+    for place in PASSED.findall(read(file)):
+        for own, here in listed_as(place[2]):
+            if here == name:
+                return declared(*place[:2], own)
+    return file, name
+
+
 def cited(item):
     """The definitions that an item's clauses cite: file and name."""
     words = set(re.findall(r"\w+", " ".join(text for _, text in item.clauses)))
     for crate, module, names in CITED.findall(read(item.path)):
-        file = os.path.join("crates", crate, "specs", *module.split(".")) + ".antt"
-        for name in names.split(",") if os.path.exists(os.path.join(TOP, file)) else ():
-            name, _, alias = name.strip().partition(" as ")
-            if (alias or name) in words:
-                yield file, name
+        for name, here in listed_as(names):
+            if here in words and (found := declared(crate, module, name)):
+                yield found
 
 
 def first_comment(path):

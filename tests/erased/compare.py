@@ -11,7 +11,7 @@ PRELUDE = "# [ allow ( unused_imports ) ] use crate :: shim :: prelude :: * ;".s
 SEEN = """wgsl_syntax wgsl_core wgsl_calls wgsl_forms::Declaration wgsl_forms::Referent wgsl_reader::Event wgsl_reader::Kind
 wgsl_reader::Mark wgsl_reader::Misread wgsl_reader::Rule wgsl_reader::Token wgsl_source::Stage wgsl_report::Place""".split()  # with all derives
 PREFIXED = {  # names that Rust has for something else, or not in older compilers, behind a `.` or behind their type
-    ".": "push push_str extend_from_slice insert to_string cast_signed cast_unsigned is_multiple_of".split(),
+    ".": "push push_str push_reserved extend_from_slice insert reserve to_string cast_signed cast_unsigned is_multiple_of".split(),
     "Box": ["new", "into_inner"], "Vec": ["new", "with_capacity"], "String": ["new", "from_str"], "BTreeMap": ["new"], "BTreeSet": ["new"]}
 END = [""] * 8  # behind the last token
 

@@ -49,6 +49,8 @@ def check_arguments():
         expect(str(error) == f"{argument}: {why}", f"{ask.__name__}{given!r:.90} raises {error!r:.200}, not {argument}: {why}")
         expect(str(raised(wgsl.Unreadable, wgsl.answer, (error.request,))).endswith(why), f"{error!r} has the request {error.request!r}")
         expect("column" not in "".join(traceback.format_exception(type(error), error, None)), f"{error!r} is printed with a column")
+    error = raised(ValueError, wgsl.source_code, ("", "C"))
+    expect(str(error) == "there is no language 'C': it is c, rust, numpy, typescript", f"a language that isn't there raises {error!r}")
     long = raised(wgsl.Unreadable, wgsl.common, (["f32"] * 1100,))
     expect(str(long) == str(raised(wgsl.Unreadable, wgsl.answer, ("size" * 1025,))), f"a long request raises {long!r}")
     return len(wrong_types) + len(misread)

@@ -4,6 +4,7 @@ import { createServer } from "node:http";
 import { mkdtempSync, readFileSync, rmSync } from "node:fs";
 import { tmpdir } from "node:os";
 import { join } from "node:path";
+import { after, before } from "node:test";
 
 export async function openBrowser(program = process.env.BROWSER ?? "chromium", more = []) {
   const profile = mkdtempSync(join(tmpdir(), "page-"));
@@ -86,6 +87,20 @@ export async function serve(file) {
   const server = createServer((_, response) => response.writeHead(200, { "content-type": "text/html" }).end(readFileSync(file)));
   await new Promise((resolve) => server.listen(0, "127.0.0.1", resolve));
   return { url: `http://127.0.0.1:${server.address().port}/`, close: () => server.close() };
+}
+
+/** For the tests of a file: a server of PAGE, a browser, and how a page is opened there. */
+export function started() {
+  const on = {
+    async opened(look = {}, address = on.server.url) {
+      const page = await on.browser.openPage(look);
+      await page.goTo(new URL(address, on.server.url).href);
+      return page;
+    },
+  };
+  before(async () => Object.assign(on, { server: await serve(process.env.PAGE), browser: await openBrowser() }));
+  after(async () => (await on.browser.close(), on.server.close()));
+  return on;
 }
 
 // What a page is told to do: to have a text, until it is checked and drawn, or a request; and what it shows.

@@ -4,37 +4,32 @@ import { execFileSync } from "node:child_process";
 import { mkdtempSync, readFileSync, readdirSync, rmSync, writeFileSync } from "node:fs";
 import { tmpdir } from "node:os";
 import { join } from "node:path";
-import { test, before, after } from "node:test";
+import { test } from "node:test";
 import { pathToFileURL } from "node:url";
+import { examples } from "page/examples";
 import { check } from "wgsl-types-proved";
-import { ask, fill, openBrowser, serve, texts } from "./browser.mjs";
+import { ask, fill, started, texts } from "./browser.mjs";
 
 const { PAGE, TOP } = process.env, SOURCED = join(TOP, "tests/sourced");
 const WIDTHS = [320, 360, 768, 1280, 1920];
-let browser, server;
-
-before(async () => {
-  server = await serve(PAGE);
-  browser = await openBrowser();
-});
-after(async () => {
-  await browser.close();
-  server.close();
-});
-
-async function opened(look = {}, address = server.url) {
-  const page = await browser.openPage(look);
-  await page.goTo(address);
-  return page;
-}
+const on = started(), { opened } = on;
 
 test("it starts from a server and from one file, without an error", async () => {
-  for (const address of [server.url, pathToFileURL(PAGE).href]) {
+  for (const address of [on.server.url, pathToFileURL(PAGE).href]) {
     const page = await opened({}, address);
     assert.deepEqual(await page.run(texts(".struct h2")), ["struct Scene", "struct Particles", "struct Light"]);
     assert.match(await page.run("document.getElementById('answers').textContent"), /vec3<f32>/);
     assert.deepEqual(page.errors, []);
   }
+});
+
+test("an answer waits for the check only if it has names of the shader", async () => {
+  const page = await on.browser.openPage();
+  await page.call("Page.addScriptToEvaluateOnNewDocument", { source: "Worker = class { postMessage() {} }" });
+  await page.call("Page.navigate", { url: on.server.url });
+  await page.until("document.querySelector('.answer')?.textContent === 'vec3<f32>' && answers.ariaBusy === 'false'");
+  await page.run(ask("LIGHTS * 2"));
+  assert.equal(await page.run("answers.ariaBusy"), "true");
 });
 
 test("nothing is wider than the window, in any example, in light and dark", async () => {
@@ -46,6 +41,7 @@ test("nothing is wider than the window, in any example, in light and dark", asyn
       for (const name of names) {
         await page.run(`{ const list = document.getElementById("examples"); list.value = ${JSON.stringify(name)}; list.dispatchEvent(new Event("change")) }`);
         await page.until("document.documentElement.dataset.checked !== undefined");
+        assert.equal(await page.run("source.value"), examples[name]);
         for (const request of ["clamp(vec3f, true, i32)", "layout struct S { a: f32, b: vec3 }", "overloads textureSampleLevel"]) {
           await page.run(ask(request));
           const wide = await page.run("document.documentElement.scrollWidth");
@@ -71,6 +67,8 @@ test("the map is to scale, and each byte is in one part", async () => {
   assert.deepEqual(rows[3], [[0, 8, false], [8, 12, false], [12, 16, true]]);
   assert.deepEqual(rows.slice(4), [[[0, 12, false], [12, 16, true]], [[0, 12, false], [12, 16, true]], [[0, 12, false], [12, 16, true]]]);
   for (const row of rows) assert.deepEqual(row.map(([from]) => from), [0, ...row.slice(0, -1).map(([, to]) => to)]);
+  assert.deepEqual(await page.run(texts(".ruler div span")), ["+0", "+4", "+8", "+12"]);
+  assert.match(await page.run("document.querySelector('.stepped').style.getPropertyValue('--step')"), /^calc\(\(100% \+ 2px\) \* 0\.333/);
 });
 
 test("by keyboard: the map tells each part, an error leads to its place", async () => {
@@ -145,9 +143,9 @@ test("the address keeps the text and the request", async () => {
   const address = await page.run("location.href"), other = await opened({}, address);
   assert.equal(await other.run("source.value"), text);
   assert.equal(await other.run("request.value"), "abs(f32)");
-  const plain = await opened({}, `${server.url}#wgsl=${encodeURIComponent("struct A { a: u32 }")}`);
+  const plain = await opened({}, `#wgsl=${encodeURIComponent("struct A { a: u32 }")}`);
   assert.deepEqual(await plain.run(texts(".struct h2")), ["struct A"]);
-  const broken = await opened({}, `${server.url}#z=%%%`);
+  const broken = await opened({}, `#z=%%%`);
   assert.equal((await broken.run(texts(".struct h2"))).length, 3);
 });
 
@@ -164,6 +162,9 @@ test("code is copied in each language, and a link", async () => {
   await page.until("copied.startsWith('http')");
   assert.equal(await page.run("copied"), await page.run("location.href"));
   assert.equal(await page.run("document.getElementById('toast').textContent"), "Link copied");
+  await page.run("navigator.clipboard.writeText = () => Promise.reject(); addEventListener('copy', ({ target }) => (copied = target.value)); document.getElementById('copy-code').click()");
+  await page.until("document.getElementById('toast').textContent === 'C copied'");
+  assert.equal(await page.run("copied"), await page.run("document.getElementById('code-text').textContent"));
 });
 
 // Behind the structs in C nothing is packed, and the file may be included twice.
@@ -259,6 +260,8 @@ test("of many structs, those near to the window are drawn", async () => {
   await page.run("document.querySelector('.struct:last-child').scrollIntoView()");
   await page.until("document.querySelector('.struct:last-child .map')?.getBoundingClientRect().height > 100");
   assert.ok((await drawn()) < 200);
+  const [kept, height] = await page.run("(({ style, clientHeight }) => [parseFloat(style.containIntrinsicBlockSize.replace('auto', '')), clientHeight])(document.querySelector('.struct:last-child'))");
+  assert.ok(Math.abs(kept - height) < height / 5, `${kept} pixels are kept for ${height}`);
   await page.run(fill("struct A { a: f32 }"));
   assert.deepEqual(await page.run(texts(".struct h2")), ["struct A"]);
 });
@@ -344,6 +347,10 @@ test("the pointer and the caret are told the innermost expression's type and sta
   assert.equal(await told(22), "error no overload of + takes (bool, AbstractInt)");
   await page.press("Escape");
   assert.equal(await page.run("tip.hidden"), true);
+  await page.look({ width: 1280, height: 200, dark: false });
+  await page.run(fill("fn f() { let a = true+1; }"));
+  assert.equal(await pointed(22), "1: AbstractInt, const expression");
+  assert.ok((await page.run("tip.getBoundingClientRect().bottom")) < (await middleOf(page, 22)).y);
 });
 
 test("F12 at the caret and a click with Ctrl lead from a name to its declaration", async () => {
@@ -400,5 +407,6 @@ test("the calculator types expressions with names of the shader, broken or not",
     await page.run(fill(changed));
     await page.until(`document.querySelector(".verdict .answer").textContent === ${JSON.stringify(answer)}`);
   }
+  assert.equal(await page.run("document.querySelector('.verdict').className"), "verdict no");
   assert.deepEqual(page.errors, []);
 });

@@ -1,7 +1,7 @@
 // The parts of the page that compute, in node. TOP is the folder of the repository, PACKAGE that of the npm package.
 import assert from "node:assert/strict";
 import { execFileSync } from "node:child_process";
-import { mkdtempSync, readFileSync, rmSync } from "node:fs";
+import { cpSync, mkdtempSync, readFileSync, rmSync } from "node:fs";
 import { tmpdir } from "node:os";
 import { join } from "node:path";
 import test from "node:test";
@@ -123,11 +123,11 @@ test("a text of another language is known by words that only it has", () => {
   const binding = "@group(0) @binding(0)";
   for (const [text, ...words] of [
     ["using namespace metal; [[buffer(0)]] [[ stage_in ]]", ["using namespace metal", ""], ["buffer", binding],
-      ["stage_in ]]", "@location(0)"]],
+      ["stage_in", "@location(0)"]],
     ["#version 3\nuniform vec4 v; layout(binding = 0)", ["#version", ""], ["uniform vec4", camera], ["layout", binding]],
     ["gl_Position gl_FragCoord sampler2D void main()", ["gl_Position", "@builtin(position)"], ["gl_FragCoord", "@builtin(..)"],
       ["sampler2D", "texture_2d<f32>"], ["void main", "fn main()"]],
-    ["in highp vec3 at;", ["in highp vec3", "@location(0)"]],
+    ["in highp vec3 at;", ["in highp vec3", "@location(0)"]], ["out vec4 at;", ["out vec4", "@location(0)"]],
     ["cbuffer C { float4x3 m; float2 a; } : SV_Position", ["cbuffer", camera], ["float4x3", "mat4x3f"], ["float2", "vec2f"],
       ["SV_Position", "@builtin(position)"]],
     ["SV_Target0 register(b0) Texture2D SamplerState", ["SV_Target0", "@location(0)"], ["register", binding],
@@ -148,5 +148,8 @@ test("the page links to the repository by an address without a password", () => 
   assert.equal(link("ssh://git@example.org/a/b"), "https://example.org/a/b");
   for (const none of ["/clone", "../clone", "file:///clone", "javascript:alert(1)", ""]) assert.equal(link(none), null, none);
   assert.equal(link(), null);
+  cpSync(join(TOP, "docs/page"), join(folder, "docs/page"), { recursive: true }); // as in a clone
+  execFileSync("node", [join(folder, "docs/page/assemble.mjs"), PACKAGE, file.replace("page.html", "docs/page.html")]);
+  assert.match(readFileSync(join(folder, "docs/page.html"), "utf8"), /<a href="\.\.\/README\.md">Repository<\/a>/);
   rmSync(folder, { recursive: true });
 });

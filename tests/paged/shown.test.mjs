@@ -2,9 +2,9 @@
 import assert from "node:assert/strict";
 import { readFileSync } from "node:fs";
 import { join } from "node:path";
-import { test, before, after } from "node:test";
+import { test } from "node:test";
 import { SourceError, layouts } from "wgsl-types-proved";
-import { ask, fill, openBrowser, serve, texts } from "./browser.mjs";
+import { ask, fill, started, texts } from "./browser.mjs";
 
 const { PAGE, TOP } = process.env;
 const SIZES = [{ width: 1280, height: 800 }, { width: 390, height: 844 }, { width: 320, height: 640 }];
@@ -16,22 +16,7 @@ struct Good { a: f32, b: vec2f }
 @group(0) @binding(1) var<storage> good: Good;
 `;
 const HLSL = "cbuffer Camera : register(b0) { float4x4 viewProj; };\nfloat4 main() : SV_Target { return float4(eye, 1); }\n";
-let browser, server;
-
-before(async () => {
-  server = await serve(PAGE);
-  browser = await openBrowser();
-});
-after(async () => {
-  await browser.close();
-  server.close();
-});
-
-async function opened(look = {}, hash = "") {
-  const page = await browser.openPage(look);
-  await page.goTo(server.url + hash);
-  return page;
-}
+const on = started(), { opened } = on;
 
 /** The message of the first error of a text, without its backticks. */
 function messageOf(text) {
@@ -87,6 +72,7 @@ test("of an operator or a call it is shown which overload it has, and why others
     "+(vecN<T>, vecN<T>) -> vecN<T>, T: numberargument 2 is AbstractInt", "+(T, vecN<T>) -> vecN<T>, T: numberargument 1 is vec3<f32>",
     "+(matNxM<T>, matNxM<T>) -> matNxM<T>, T: floatargument 1 is vec3<f32>",
   ], "Overload 3: (vec3<f32>, f32) -> vec3<f32>"]);
+  assert.equal(await page.run("document.querySelectorAll('.why li > code + span').length"), 3);
   assert.deepEqual(await shown("mix(vec3f, vec3f, 1)"), [["Why other overloads don’t take the operands"], [
     "mix(vecN<T>, vecN<T>, vecN<T>) -> vecN<T>, T: floatargument 3 is AbstractInt",
   ], "Overload 2: (vec3<f32>, vec3<f32>, f32) -> vec3<f32>"]);
@@ -103,6 +89,7 @@ test("a struct with an error keeps a grey card, with the error in it", async () 
   const told = messageOf(BROKEN);
   assert.deepEqual(await page.run(texts(".broken")), ["struct Sceneno layoutLeft out, as Light has an error.",
     `struct Lightno layouterror 2:37 ${told}struct Light { color: vec3f, power: f23, }\n                                    ^~~`]);
+  assert.deepEqual(await page.run(texts(".broken .facts")), ["no layout", "no layout"]);
   const [grey, plain] = await page.run(`[".broken", ".struct:not(.broken)"].map((card) => getComputedStyle(document.querySelector(card)).backgroundColor)`);
   assert.notEqual(grey, plain);
   await page.run("document.querySelector('.broken .problem').click()");
@@ -113,6 +100,9 @@ test("a struct with an error keeps a grey card, with the error in it", async () 
   assert.match(await page.run(text(".broken:last-child")), /more: u32 \}/);
   await page.run(fill(BROKEN.replace("f23", "f32")));
   assert.deepEqual(await page.run(`[${texts(".broken")}, ${texts(".struct h2")}, ${text("#counts")}]`), [[], ["struct Scene", "struct Good", "struct Camera", "struct Light"], "4 structs · 2 variables"]);
+  const broken = await page.run(`new Promise((done) => { new MutationObserver(() => done(${texts(".broken")})).observe(counts, { childList: true });
+    source.value = ${JSON.stringify(BROKEN)}; source.dispatchEvent(new Event("input")) })`);
+  assert.deepEqual(broken, []); // the cards wait until no key comes
   await page.run(fill("alias Q = f23; struct A { a: Q }"));
   assert.deepEqual(await page.run(texts(".broken")), ["struct Ano layoutLeft out, as a declaration that it names has an error."]);
 });
@@ -130,7 +120,8 @@ test("a text of another language is told, and what WGSL writes; so is one withou
   assert.deepEqual(await page.run(`[${texts(".note")}, ${text("#counts")}]`), [[], "0 structs · 0 variables · 1 left out · 1 error"]);
   for (const none of ["", "fn f() {}\n", "bad"]) {
     await page.run(fill(none));
-    assert.match((await page.run(texts(".note"))).join(), /^Here is no struct and no variable\. /, none);
+    assert.match((await page.run(texts(".note"))).join(), /^Here is no struct and no variable\. Write a struct, and its bytes are drawn: struct Light /, none);
+    assert.equal(messageOf(await page.run(text(".note code"))), null);
   }
   await page.run(fill("var<private> a: f32;"));
   assert.deepEqual(await page.run(`[${texts(".note")}, ${text("#counts")}]`), [[], "0 structs · 1 variable"]);
@@ -144,6 +135,7 @@ test("bound structs come first, and each card and row says how its variable is b
   await page.run(fill(`struct A { a: f32 } struct B { a: A } struct C { c: u32 } struct D { d: array<A> } struct E { e: f32 }
 var<private> p: A; @group(0) @binding(0) var<uniform> c: C; @group(2) @binding(1) var<storage, read_write> d: D; @group(1) @binding(0) var<storage, read> e: array<E>; @group(1) @binding(7) var t: texture_2d<f32>;`));
   assert.deepEqual(await page.run(texts(".struct h2")), ["C", "D", "E", "A", "B"].map((name) => `struct ${name}`));
+  assert.equal(await page.run("document.querySelectorAll('.struct thead th').length"), 30);
   assert.deepEqual(await page.run(texts(".where")), ["@group(0) @binding(0) var<uniform> c: C;", "@group(2) @binding(1) var<storage, read_write> d: D;",
     "@group(1) @binding(0) var<storage, read> e: array<E>;", "var<private> p: A;"]);
   assert.deepEqual(await page.run(`[...document.querySelectorAll("#variables tr")].map((row) => [...row.children].map(({ textContent }) => textContent))`), [
@@ -195,6 +187,17 @@ test("the map's parts are told by keys, from the first to the last", async () =>
   assert.equal(await told("End"), "a[1]: vec4<i64>, offset 32, size 32 (bytes 32–63), in a: array<vec4<i64>, 2>");
 });
 
+test("the pointer at a part tells it and marks the row of its member, and at a row it marks the parts", async () => {
+  const page = await opened(), marked = `[${text(".info")}, ${texts("tr.of .name")}, ${texts(".map .of")}, ${texts(".map .on")}]`;
+  const at = (selector, kind) => page.run(`document.querySelector("${selector}").dispatchEvent(new PointerEvent("pointer${kind}", { bubbles: true })), ${marked}`);
+  await page.run(fill("struct S { a: vec2f, b: array<f32, 5> }"));
+  const none = ["4 bytes of 32 are padding. Point at a part, or move with the arrow keys.", [], [], []];
+  assert.deepEqual(await at(".map i:nth-child(3)", "over"), ["b[1]: f32, offset 12, size 4 (bytes 12–15), in b: array<f32, 5>", ["b"], ["b[0]", "[1]", "[2]", "[3]", "[4]"], ["[1]"]]);
+  assert.deepEqual(await at(".map", "leave"), none);
+  assert.deepEqual(await at("tbody tr:nth-child(2)", "enter"), [none[0], ["b"], ["b[0]", "[1]", "[2]", "[3]", "[4]"], []]);
+  assert.deepEqual(await at("tbody tr:nth-child(2)", "leave"), none);
+});
+
 test("rows of a long member are folded, and unfold", async () => {
   const page = await opened(), at = () => page.run(texts(".map .at"));
   await page.run(fill("struct S { a: array<vec4f, 7>, b: array<vec4f, 9> }"));
@@ -218,6 +221,9 @@ test("errors go before findings at the numbers of lines, and many are cut", asyn
     assert.equal(items.length, Math.min(count, 101));
     assert.match(items.at(-1), last);
   }
+  await page.run("document.querySelectorAll('#problems .problem')[60].click()");
+  assert.equal(await page.run("source.scrollTop"), 57 * 20);
+  assert.equal(await page.run("document.querySelectorAll('#marks div').length"), 200);
   assert.equal(await page.run(text("#counts")), "0 structs · 0 variables · 1,150 left out · 1,150 errors");
 });
 
@@ -225,6 +231,9 @@ test("what is one is counted as one", async () => {
   const page = await opened();
   await page.run(fill("struct A { a: f32 } @group(0) @binding(0) var<uniform> a: array<f32, 4>; struct B { x: nowhere }"));
   assert.equal(await page.run(text("#counts")), "1 struct · 1 variable · 1 left out · 1 error · 1 finding");
+  assert.equal(await page.run("document.getElementById('code').hidden"), false);
+  await page.run(fill("var<private> a: f32;"));
+  assert.equal(await page.run("document.getElementById('code').hidden"), true);
   await page.run(fill("enable f16; struct A { a: vec3<f32>, b: f16, c: f16 }"));
   assert.match(await page.run(text(".info")), /^No padding\. /);
 });
@@ -272,6 +281,11 @@ test("the editor stays in view beside the results, nothing covers the calculator
     const covered = await page.run(`(() => { const { left, right, top, bottom } = request.getBoundingClientRect();
       return [left + 20, (left + right) / 2, right - 20].filter((x) => document.elementFromPoint(x, (top + bottom) / 2) !== request).length })()`);
     assert.equal(covered, 0, `${size.width}`);
+    const top = "document.querySelector('.editor').offsetTop", before = await page.run(top);
+    await page.run(fill(BROKEN.replace("f32, b", `f32, ${"c".repeat(60)}: f32, d: f33, b`)));
+    if (size.width > 900) assert.equal(await page.run(top), before); // errors are told in the room that is there
+    const cut = await page.run(`[...document.querySelectorAll(".problem pre")].filter((line) => line.lastChild.getBoundingClientRect().right > line.getBoundingClientRect().right).length`);
+    assert.equal(cut, 0, `${size.width}`);
     const broken = await page.run(`[...document.querySelectorAll("th, [role=tab], button#copy-code")].filter((part) => { const range = document.createRange(); range.selectNodeContents(part); return range.getClientRects().length > 1 }).map(({ textContent }) => textContent)`);
     assert.deepEqual(broken, [], `${size.width}`);
   }
@@ -300,6 +314,10 @@ test("names, types and numbers have three colours, in the text, in tables and in
     assert.equal(await page.run(color("#source")), "rgba(0, 0, 0, 0)");
   }
   assert.notEqual(palettes[0], palettes[1]);
+  const page = await opened(), keywords = `alias break case const const_assert continue continuing default diagnostic discard else enable false fn
+    for if let loop override requires return struct switch true var while`;
+  await page.run(fill(keywords));
+  assert.deepEqual(await page.run(texts("#colors span")), []);
 });
 
 test("the colours lie on the text, wherever it is scrolled to", async () => {

@@ -1,10 +1,10 @@
 -- The answer of a constructor from the answers of the functions that it calls, for one argument and for several.
 use Rattle.std.proofs.Common.{string_bytes, ◌≡◌, ◌≢◌, ℕ, ◌<◌, ◌≤◌, List, [], ◌∷◌, length, map, Option, Some, None, Result, Ok, Err, Bool, IsTrue, ◌↔◌, refl, sym, ap, subst, ◌∙◌, inl, inr, arith, Bor}
 use Rattle.wgsl_calls.proofs.Common.{length-map, Scalar, IsMatrix, ConvertsTo, IsConvertedInside, IsLeftCommon, of_no_types, of_one_type, Refusal, builtin, conversion, param_count, param_type, Signature, view, struct_view, members_view, view-struct, StructType, out-StructType, AnswersAs, «Type», Error, Fail, AllConverted}
-use Rattle.wgsl_rules.specs.types.Types.{Layer, array_of, vec_of, mat_of, WgslType, scalar, within, array, vec, mat, Members, struct, atomic, pointer, reference, texture, sampler, binding_array, ray_query, acceleration_structure}
+use Rattle.wgsl_rules.specs.types.Types.{Layer, array_of, vec_of, mat_of, WgslType, scalar, within, array, vec, mat, struct, atomic, pointer, reference, texture, sampler, binding_array, ray_query, acceleration_structure}
 use Rattle.wgsl_rules.specs.constructors.Vectors.{IsTypedVectorOfOne, IsTypedVectorOfSeveral, IsTypedVector, IsUntypedVectorOfSeveral, IsUntypedVector}
 use Rattle.wgsl_rules.specs.constructors.Matrices.{incompatible_matrix, IsMatrixOf, IsTypedMatrixOf, IsTypedMatrixOfOne, IsTypedMatrix, IsUntypedMatrixOf, IsUntypedMatrixOfOne, IsUntypedMatrix}
-use Rattle.wgsl_rules.specs.constructors.Constructors.{Constructor, constructor_of, IsBuilt, IsConstructorAnswer, IsTypedArray, IsFilled, IsStructCall, member_count, AllFit, IsFirstMisfit}
+use Rattle.wgsl_rules.specs.constructors.Constructors.{Constructor, constructor_of, IsBuilt, IsConstructorAnswer, IsTypedArray, IsFilled, member_count, AllFit, IsFirstMisfit}
 use Rattle.wgsl_calls.proofs.Arguments.{count_of_members, misfit_is_no_fit}
 use Rattle.wgsl_core.specs.Forms.{form_view, layer_of}
 use Rattle.wgsl_core.specs.declared.ty.form.Form.{Form}

@@ -1,7 +1,7 @@
 -- When out of memory may stand for an answer.
 use Rattle.std.specs.declared.alloc.AllocError.{AllocError}
-use Rattle.std.proofs.Common.{◌≡◌, List, [], ◌∷◌, Option, Some, None, Result, Ok, Err, inl, inr, refl, sym, subst, Bool, true, false, cond, IsErrAnd}
-use Rattle.wgsl_calls.proofs.Common.{Scalar, F32, Layer, array_of, vec_of, mat_of, WgslType, scalar, within, IsLeaf, result_struct, exchange_struct, ray_intersection_struct, Parameter, Signature, Refusal, signature, Row, ReturnType, Fits, return_type_of, IsFromTemplate, given, «Type», Error, Fail, IsScalarMade, Answered, Chooses, IsBuilt as IsBuiltType, IsMet, MayBeOutOfMemory}
+use Rattle.std.proofs.Common.{◌≡◌, List, [], ◌∷◌, Option, Some, None, Result, Ok, Err, inr, refl, sym, subst, Bool, true, false, cond, IsErrAnd}
+use Rattle.wgsl_calls.proofs.Common.{Scalar, F32, Layer, array_of, vec_of, mat_of, WgslType, scalar, within, IsLeaf, result_struct, exchange_struct, ray_intersection_struct, Parameter, Signature, Refusal, signature, Row, ReturnType, Fits, IsFromTemplate, given, «Type», Error, Fail, IsScalarMade, Answered, Chooses, IsBuilt as IsBuiltType, IsMet, MayBeOutOfMemory}
 use Rattle.wgsl_syntax.specs.declared.result_struct.ResultStruct.{ResultStruct}
 use Rattle.wgsl_core.specs.ResultStruct.{result_type}
 use Rattle.wgsl_rules.specs.conversion.Concrete.{is_abstract, concretized}

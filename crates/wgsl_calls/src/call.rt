@@ -3,7 +3,7 @@ ghost use Rattle.std.specs.Prelude.{◌≡◌, Err, option_map, map, All};
 ghost use Rattle.wgsl_rules.specs.conversion.Concrete.{concretized};
 ghost use Rattle.wgsl_rules.specs.errors.Refusals.{signature};
 ghost use Rattle.wgsl_rules.specs.calls.ResultTypes.{exchange_struct};
-ghost use Rattle.wgsl_rules.specs.calls.Rows.{IsResultFor, IsFromTemplate, IsReturnType, return_type_of as return_type_of_row};
+ghost use Rattle.wgsl_rules.specs.calls.Rows.{IsResultFor, IsFromTemplate, IsReturnType, given, return_type_of as return_type_of_row};
 ghost use Rattle.wgsl_rules.specs.templates.Templates.{IsBitcastTemplate};
 ghost use Rattle.wgsl_rules.specs.calls.Table.{call_table, rows_named};
 ghost use Rattle.wgsl_rules.specs.calls.Answers.{IsCallAnswer, IsLeastCallAnswer, IsLeafCall};
@@ -30,7 +30,7 @@ use crate::call::find::rows_of;
 use crate::call::fit::fits;
 use crate::call::rows::Rows;
 use crate::call::source::{
-    argument, as_long, bare, in_vector, inner, texture_size, transposed, type_of_source,
+    argument, as_long, in_vector, inner, texture_size, transposed, type_of_source,
 };
 use crate::template::BitcastTemplate;
 pub use find::{find_call, names_match_table, names_sorted};
@@ -149,7 +149,7 @@ fn by_return_type(
 {
     let args = call.args;
     let built = match return_type {
-        ReturnType::Of(of) => built(alloc, bare(type_of_source(of, args))),
+        ReturnType::Of(of) => return copied(alloc, type_of_source(of, args), call),
         ReturnType::Concrete(of) => concrete(alloc, type_of_source(of, args)),
         ReturnType::AsLong(of) => {
             built(alloc, as_long(argument(args, 0), type_of_source(of, args)))
@@ -166,6 +166,22 @@ fn by_return_type(
     };
     match built {
         Some(built) => Ok(Some(built?)),
+        None => refuse(alloc, call),
+    }
+}
+
+/// A copy of the type, or the refusal if there is none.
+#[inline(always)]
+fn copied(
+    alloc: Global,
+    found: Option<Element<'_>>,
+    call: &NamedCall<'_>,
+) -> Result<Option<Type>, Fail<Error>>
+    ensures { IsMet (given (signature_of call.now) (option_map element_view found.entry)) result }
+{
+    match found {
+        Some(Element::Scalar(scalar)) => Ok(Some(Type::from(scalar))),
+        Some(Element::Type(ty)) => Ok(Some(ty.clone(alloc)?)),
         None => refuse(alloc, call),
     }
 }

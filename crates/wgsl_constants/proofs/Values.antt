@@ -1,6 +1,5 @@
 -- An operator has the value that the function says.
-use Rattle.std.proofs.Common.{◌≡◌, ◌⊎◌, inl, inr, ℕ, ◌*◌, ◌<◌, ◌≤◌, ◌^◌, ℤ, pos, negsuc, ◌*ℤ◌, neg_ℤ, Bool, true, false, cond, Option, Some, None, Result, Ok, Err, FitsSigned, w32, w64, refl, sym, ap, ◌∙◌, arith, ltb-true, eqb-true, lt-ltb, eq-eqb, nat_lt, nat_eq, unsigned_abs}
-use Rattle.std.specs.Int.{FitsUnsignedBits}
+use Rattle.std.proofs.Common.{◌≡◌, ◌⊎◌, inl, inr, ℕ, ◌*◌, ◌<◌, ◌≤◌, ◌^◌, ℤ, pos, negsuc, ◌*ℤ◌, Bool, true, false, cond, Option, Some, None, Result, Ok, Err, FitsSigned, w32, w64, refl, sym, ap, ◌∙◌, arith, ltb-true, eqb-true, lt-ltb, eq-eqb, nat_lt, nat_eq, unsigned_abs}
 use Rattle.wgsl_constants.specs.declared.integer.Integer.{Integer}
 use Rattle.wgsl_constants.specs.declared.integer.Integer.TheVariants.{Abstract, I32, U32}
 use Rattle.wgsl_constants.specs.declared.integer.IntegerPair.{IntegerPair}
@@ -156,6 +155,6 @@ pub right_shift_is : (n k : Integer) (r : Result Integer IntegerError) → IsRig
 right_shift_is n k r is = rw (sym (count_is k)) (and_then (shifted_right n) (count_of k) (right_is n) r is)
 
 pub negative_is : (n : Integer) (r : Result Integer IntegerError) → IsNegative n r → found r ≡ negative n
-negative_is (Abstract n) r is = of_type _ _ (if_fits (fits 63 (neg_ℤ n)) (neg_ℤ n)) (fitting _ _ _ (fits64 _)) r is
+negative_is (Abstract n) r is = exact r is
 negative_is (I32 n) r is = exact r is
 negative_is (U32 n) r is = refused r is

@@ -18,7 +18,7 @@ use Rattle.wgsl_constants.specs.declared.call.Function.TheVariants as f
 use Rattle.wgsl_constants.specs.Answers.{map_ok, then_ok}
 use Rattle.wgsl_constants.specs.declared.function.BitFunction.TheVariants as bit
 use Rattle.wgsl_constants.specs.Conversions.{i32_of, number, u32_of}
-use Rattle.wgsl_constants.specs.Functions.{absolute, bits_of, clamped, extracted, greatest, inserted, leading_bit, least, of_bits, of_pair, selected, sign}
+use Rattle.wgsl_constants.specs.Functions.{absolute, bits_of, clamped, extracted, greatest, inserted, leading_bit, least, of_bits, of_pair, selected, sign, signed_of}
 
 -- the functions by their names; `bitcast` has its type in a list behind its name
 abbrev pub function_names : List (Function × List ℕ)
@@ -102,7 +102,7 @@ abbrev pub integer_of : Function → Constant → Result Integer CallError
 integer_of f.U32 a = map_ok U32 (to_u32 a)
 integer_of f.I32 a = map_ok I32 (to_i32 a)
 integer_of f.BitcastU32 a = map_ok U32 (of_integer bits_of a)
-integer_of f.BitcastI32 a = map_ok (λ n. I32 (cast_signed w32 n)) (of_integer bits_of a)
+integer_of f.BitcastI32 a = map_ok I32 (of_integer signed_of a)
 integer_of f.Abs a = of_integer absolute a
 integer_of f.Sign a = of_integer sign a
 integer_of f.FirstLeadingBit a = of_integer leading_bit a

@@ -1,6 +1,6 @@
 -- The values of built-in functions on integers (WGSL, "Numeric Built-in Functions", "Logical Built-in Functions", "bitcast").
-use Rattle.std.specs.Prelude.{ℕ, ◌+◌, ◌-◌, ◌*◌, ◌/◌, ◌%◌, ◌^◌, ℤ, ◌-ℤ◌, pos, Bool, true, false, cond, neg_ℤ, min, max, Result, Ok, Err, count_ones, int_lt, nat_eq, nat_lt, unsigned_abs}
-use Rattle.std.specs.Int.{w32, cast_signed, cast_unsigned, int_bit_not, int_max, int_min, int_signum, leading_zeros, reverse_bits, trailing_zeros}
+use Rattle.std.specs.Prelude.{ℕ, ◌+◌, ◌-◌, ◌*◌, ◌/◌, ◌%◌, ◌^◌, ℤ, ◌-ℤ◌, pos, Bool, true, false, cond, min, max, Result, Ok, Err, count_ones, int_lt, nat_eq, nat_lt, unsigned_abs}
+use Rattle.std.specs.Int.{w32, w64, cast_signed, cast_unsigned, int_bit_not, int_max, int_min, int_signum, leading_zeros, reverse_bits, trailing_zeros}
 use Rattle.std.specs.Ordering.{int_cmp, nat_cmp}
 use Rattle.std.specs.declared.cmp.Ordering.{Ordering}
 use Rattle.std.specs.declared.cmp.Ordering.TheVariants.{Less, Equal, Greater}
@@ -12,8 +12,8 @@ use Rattle.wgsl_constants.specs.declared.integer.IntegerPair.{IntegerPair}
 use Rattle.wgsl_constants.specs.declared.integer.IntegerPair.TheVariants.{Abstract as BothAbstract, I32 as BothI32, U32 as BothU32}
 use Rattle.wgsl_constants.specs.declared.integer.IntegerError.{IntegerError}
 use Rattle.wgsl_constants.specs.declared.integer.IntegerError.TheVariants.{BitsTooFar, EmptyRange, NegatedUnsigned}
-use Rattle.wgsl_constants.specs.Answers.{fitting, map_ok, then_ok}
-use Rattle.wgsl_constants.specs.Conversions.{count_of, fits, i32_of, pair, u32_of}
+use Rattle.wgsl_constants.specs.Answers.{map_ok, then_ok}
+use Rattle.wgsl_constants.specs.Conversions.{count_of, i32_of, pair, u32_of}
 
 -- what holds of both integers in one type
 abbrev pub of_pair : {A : Type 0} → (IntegerPair → A) → Integer → Integer → Result A IntegerError
@@ -54,9 +54,9 @@ between a low high Equal = then_ok (of_pair greatest a low) (λ a. of_pair least
 abbrev pub clamped : Integer → Integer → Integer → Result Integer IntegerError
 clamped a low high = then_ok (of_pair comparison low high) (between a low high)
 
--- `abs`: of an `i32` the bits of its absolute value, so the least one is its own
+-- `abs`: for the least AbstractInt or `i32` it is that number
 abbrev pub absolute : Integer → Result Integer IntegerError
-absolute (Abstract n) = map_ok Abstract (fitting (fits 63 (neg_ℤ n)) (pos (unsigned_abs n)))
+absolute (Abstract n) = Ok (Abstract (cast_signed w64 (unsigned_abs n)))
 absolute (I32 n) = Ok (I32 (cast_signed w32 (unsigned_abs n)))
 absolute (U32 n) = Ok (U32 n)
 
@@ -71,11 +71,17 @@ abbrev pub bits_of_either : Result ℤ IntegerError → Result ℕ IntegerError 
 bits_of_either (Ok n) other = Ok (cast_unsigned w32 n)
 bits_of_either (Err e) other = other
 
--- `bitcast`: the bits of an integer, where an AbstractInt is an `i32` if it fits, else a `u32`
+-- `bitcast<u32>`: the bits of an integer, where an AbstractInt is an `i32` if it fits, else a `u32`
 abbrev pub bits_of : Integer → Result ℕ IntegerError
 bits_of (Abstract n) = bits_of_either (i32_of n) (u32_of n)
 bits_of (I32 n) = Ok (cast_unsigned w32 n)
 bits_of (U32 n) = Ok n
+
+-- `bitcast<i32>`: an AbstractInt is an `i32`
+abbrev pub signed_of : Integer → Result ℤ IntegerError
+signed_of (Abstract n) = i32_of n
+signed_of (I32 n) = Ok n
+signed_of (U32 n) = Ok (cast_signed w32 n)
 
 -- `countOneBits(7)` is 3, `countTrailingZeros(8u)` 3u, `firstTrailingBit(0u)` has all bits
 abbrev pub of_u32 : BitFunction → ℕ → ℕ

@@ -36,9 +36,9 @@ IsLeftShift n k r = Then (count_of k) (IsShiftedLeft n) r
 abbrev pub IsRightShift : Integer → Integer → Result Integer IntegerError → Type 0
 IsRightShift n k r = Then (count_of k) (IsShiftedRight n) r
 
--- `-`: `-(-2147483647i - 1i)` is -2147483648, and a `u32` has no negative
+-- `-`: for the least AbstractInt or `i32` it is that number, as `-(-2147483647i - 1i)` is -2147483648. A `u32` has no negative
 abbrev pub IsNegative : Integer → Result Integer IntegerError → Type 0
-IsNegative (Abstract n) r = Of Abstract (IsFitting (FitsSigned w64 (neg_ℤ n)) (neg_ℤ n)) r
+IsNegative (Abstract n) r = r ≡ Ok (Abstract (int_wrap w64 (neg_ℤ n)))
 IsNegative (I32 n) r = r ≡ Ok (I32 (int_wrap w32 (neg_ℤ n)))
 IsNegative (U32 n) r = r ≡ Err NegatedUnsigned
 

@@ -91,8 +91,8 @@ left_shift n k = then (shift_count k) (shifted_left n)
 abbrev pub right_shift : Integer → Integer → Option Integer
 right_shift n k = then (shift_count k) (shifted_right n)
 
--- `-`: a `u32` has no negative
+-- `-`: for the least AbstractInt or `i32` it is that number. A `u32` has no negative
 abbrev pub negative : Integer → Option Integer
-negative (Abstract n) = map_value Abstract (if_fits (fits 63 (neg_ℤ n)) (neg_ℤ n))
+negative (Abstract n) = Some (Abstract (int_wrap w64 (neg_ℤ n)))
 negative (I32 n) = Some (I32 (int_wrap w32 (neg_ℤ n)))
 negative (U32 n) = None

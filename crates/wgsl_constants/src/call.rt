@@ -6,7 +6,7 @@ ghost use Rattle.wgsl_constants.specs.Calls.{called, function_named, integer, in
 use crate::constant::Constant;
 use crate::function::{
     BitFunction, absolute, bits_of, clamp, extract_bits, first_leading_bit, insert_bits, maximum,
-    minimum, select, sign,
+    minimum, select, sign, signed_of,
 };
 use crate::integer::{Integer, IntegerError};
 use crate::operator;
@@ -152,7 +152,7 @@ impl Function {
             Function::U32 => Ok(Integer::U32(to_u32(a)?)),
             Function::I32 => Ok(Integer::I32(to_i32(a)?)),
             Function::BitcastU32 => Ok(Integer::U32(bits_of(integer(a)?)?)),
-            Function::BitcastI32 => Ok(Integer::I32(bits_of(integer(a)?)?.cast_signed())),
+            Function::BitcastI32 => Ok(Integer::I32(signed_of(integer(a)?)?)),
             Function::Abs => Ok(absolute(integer(a)?)?),
             Function::Sign => Ok(sign(integer(a)?)?),
             Function::FirstLeadingBit => Ok(first_leading_bit(integer(a)?)?),

@@ -1,13 +1,13 @@
 // Functions on integers (WGSL, "Numeric Built-in Functions", "Logical Built-in Functions", "bitcast").
 
 ghost use Rattle.std.specs.Prelude.{◌≡◌, ◌+◌, ◌<◌, ◌≤◌, ◌^◌};
-ghost use Rattle.wgsl_constants.specs.Functions.{absolute, bits_of, clamped, extracted, field, field_i32, first_bit, first_bit_of, greatest, inserted, leading_bit, least, of_bits, of_i32, of_pair, of_u32, replaced, replaced_i32, selected, sign, signed};
+ghost use Rattle.wgsl_constants.specs.Functions.{absolute, bits_of, clamped, extracted, field, field_i32, first_bit, first_bit_of, greatest, inserted, leading_bit, least, of_bits, of_i32, of_pair, of_u32, replaced, replaced_i32, selected, sign, signed, signed_of};
 
 use crate::integer::{Integer, IntegerError, IntegerPair};
 use crate::operator::{compare, count_of, pair_of, to_i32, to_u32};
 use std::cmp::Ordering;
 
-/// The bits of a 32-bit integer. An AbstractInt is taken as an `i32` if it fits, or else as a `u32`.
+/// `bitcast<u32>`. An AbstractInt is taken as an `i32` if it fits, or else as a `u32`.
 pub fn bits_of(integer: Integer) -> Result<u32, IntegerError>
     ensures { result ≡ bits_of integer }
 {
@@ -21,15 +21,23 @@ pub fn bits_of(integer: Integer) -> Result<u32, IntegerError>
     }
 }
 
-/// `abs`. For the least `i32` it is that `i32`.
+/// `bitcast<i32>`. An AbstractInt is taken as an `i32`.
+pub fn signed_of(integer: Integer) -> Result<i32, IntegerError>
+    ensures { result ≡ signed_of integer }
+{
+    match integer {
+        Integer::Abstract(value) => to_i32(value),
+        Integer::I32(value) => Ok(value),
+        Integer::U32(value) => Ok(value.cast_signed()),
+    }
+}
+
+/// `abs`. For the least AbstractInt or `i32` it is that number.
 pub fn absolute(integer: Integer) -> Result<Integer, IntegerError>
     ensures { result ≡ absolute integer }
 {
     match integer {
-        Integer::Abstract(value) => match value.checked_abs() {
-            Some(value) => Ok(Integer::Abstract(value)),
-            None => Err(IntegerError::Overflow),
-        },
+        Integer::Abstract(value) => Ok(Integer::Abstract(value.wrapping_abs())),
         Integer::I32(value) => Ok(Integer::I32(value.wrapping_abs())),
         Integer::U32(value) => Ok(Integer::U32(value)),
     }

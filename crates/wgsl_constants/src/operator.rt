@@ -1,7 +1,7 @@
 // Operators on integers (WGSL, "Arithmetic Expressions", "Bit Expressions").
 
-ghost use Rattle.std.specs.Prelude.{◌≡◌, ◌<◌, ◌^◌, neg_ℤ, pos};
-ghost use Rattle.std.specs.Int.{int_shr, int_wrap, w32};
+ghost use Rattle.std.specs.Prelude.{◌≡◌, ◌<◌, ◌^◌, pos};
+ghost use Rattle.std.specs.Int.{int_shr};
 ghost use Rattle.wgsl_constants.specs.Conversions.{count_of, i32_of, pair, u32_of};
 ghost use Rattle.wgsl_constants.specs.Arithmetic.{IsAbstractValue, IsI32Value, IsU32Value, IsValue};
 ghost use Rattle.wgsl_constants.specs.Functions.{comparison, of_pair};
@@ -249,24 +249,15 @@ fn shift_down(value: i64, count: u32) -> i64
     }
 }
 
-/// The value of `-`.
+/// The value of `-`. For the least AbstractInt or `i32` it is that number.
 pub fn negative(integer: Integer) -> Result<Integer, IntegerError>
     ensures { IsNegative integer result }
 {
     match integer {
-        Integer::Abstract(value) => match value.checked_neg() {
-            Some(value) => Ok(Integer::Abstract(value)),
-            None => Err(IntegerError::Overflow),
-        },
-        Integer::I32(value) => Ok(Integer::I32(negative_i32(value))),
+        Integer::Abstract(value) => Ok(Integer::Abstract(value.wrapping_neg())),
+        Integer::I32(value) => Ok(Integer::I32(value.wrapping_neg())),
         Integer::U32(_) => Err(IntegerError::NegatedUnsigned),
     }
-}
-
-fn negative_i32(value: i32) -> i32
-    ensures { result ≡ int_wrap w32 (neg_ℤ value) }
-{
-    value.wrapping_neg()
 }
 
 /// The value of `~`.

@@ -1,9 +1,6 @@
--- The tokens of a request, one by one.
-use Rattle.std.proofs.Common.{◌≡◌, ℕ, ◌+◌, ◌<◌, ◌++◌, List, [], ◌∷◌, drop, length, slice_index_or, slice_set, take, zero, suc, refl, sym, ap, ◌∙◌, arith}
-use Rattle.wgsl_reader.specs.declared.kind.Kind.{Kind}
-use Rattle.wgsl_reader.specs.declared.token.Token.{Token}
-use Rattle.wgsl_spelling.specs.Words.{word}
-use Rattle.wgsl_expressions.specs.RequestTokens.{asked_behind, asked_kind, next_kind}
+-- The tokens of a request and those of an expression, one by one.
+use Rattle.wgsl_expressions.proofs.Common.{◌≡◌, ℕ, ◌+◌, ◌<◌, ◌++◌, List, [], ◌∷◌, drop, length, get_or as slice_index_or, slice_set, take, zero, suc, refl, sym}
+use Rattle.wgsl_expressions.proofs.Common.{ap, ◌∙◌, arith, Kind, Token, word, asked_behind, asked_kind, next_kind, map, as_operand, operand_token}
 
 module _ (text : List ℕ) (before : Kind) (d : Token) where
   -- the kind of the token at an index
@@ -33,3 +30,24 @@ module _ (text : List ℕ) (before : Kind) (d : Token) where
 pub as_many : (text : List ℕ) (before : Kind) (ts : List Token) → length (asked_behind text before ts) ≡ length ts
 as_many text before [] = refl
 as_many text before (t ∷ ts) = ap suc (as_many text (asked_kind before t.kind (word text t) (next_kind ts)) ts)
+
+-- the tokens, of which the first `n` are an operand's
+abbrev pub so_far : ℕ → List Token → List Token
+so_far n ts = map operand_token (take n ts) ++ drop n ts
+
+pub same_length : (n : ℕ) (ts : List Token) → length (so_far n ts) ≡ length ts
+same_length zero ts = refl
+same_length (suc n) [] = refl
+same_length (suc n) (t ∷ ts) = ap suc (same_length n ts)
+
+next_operand : (n : ℕ) (ts : List Token) (d : Token) → n < length ts → slice_set (so_far n ts) n (operand_token (slice_index_or (so_far n ts) n d)) ≡ so_far (suc n) ts
+next_operand n [] d lt = absurd (omega (arith, lt))
+next_operand zero (t ∷ ts) d lt = refl
+next_operand (suc n) (t ∷ ts) d lt = ap (λ rest. operand_token t ∷ rest) (next_operand n ts d (omega (arith, lt)))
+
+pub one_more : (all ts : List Token) (n : ℕ) (kind : Kind) (d : Token) → n < length ts → all ≡ so_far n ts → kind ≡ as_operand (slice_index_or all n d).kind
+    → slice_set all n (record { kind = kind; at = (slice_index_or all n d).at; len = (slice_index_or all n d).len }) ≡ so_far (n + 1) ts
+one_more all ts n kind d lt e k =
+    let more : suc n ≡ n + 1 = omega arith in
+    ap (λ kind. slice_set all n (record { kind = kind; at = (slice_index_or all n d).at; len = (slice_index_or all n d).len })) k
+    ∙ (ap (λ all. slice_set all n (operand_token (slice_index_or all n d))) e ∙ (next_operand n ts d lt ∙ ap (λ n. so_far n ts) more))

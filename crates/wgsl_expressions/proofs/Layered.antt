@@ -1,8 +1,6 @@
 -- How many layers a type has, one by one.
-use Rattle.std.proofs.Common.{◌≡◌, ◌≢◌, ◌-◌, ℕ, zero, suc, true, false, refl, ap, arith}
+use Rattle.wgsl_expressions.proofs.Common.{◌≡◌, ◌≢◌, ◌-◌, ℕ, zero, suc, true, false, refl, ap, arith, WgslType, has_layer, is_deeper}
 use Rattle.wgsl_rules.specs.types.Inner.{inner_of}
-use Rattle.wgsl_rules.specs.types.Types.{WgslType}
-use Rattle.wgsl_expressions.specs.Depth.{has_layer, is_deeper}
 
 pub without_layer : (n : ℕ) (t : WgslType) → has_layer t ≡ false → is_deeper n t ≡ false
 without_layer zero t e = e

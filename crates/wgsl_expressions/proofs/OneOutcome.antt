@@ -1,37 +1,34 @@
--- Each text is one expression or none, and each line asks one thing or none, if every request has an answer.
-use Rattle.std.proofs.Common.{◌+◌, ◌-◌, ◌&&◌, ◌||◌, ℕ, zero, suc, Bool, List, [], ◌∷◌, Option, Some, None, Ok, Err, true, false, length, map, slice_get, slice_range}
-use Rattle.wgsl_rules.specs.types.Types.{WgslType}
+-- Each text is one expression or none, each line asks one thing or none and has one reply, if every request has an answer.
+use Rattle.wgsl_expressions.proofs.Common.{◌+◌, ◌-◌, ◌&&◌, ◌||◌, ℕ, zero, suc, Bool, List, [], ◌∷◌, Option, Some, None, Ok, Err, true, false, length, map}
+use Rattle.wgsl_expressions.proofs.Common.{slice_get, slice_range, WgslType, Expression, WgslRequest, form_of, HasOne, behind, known, EachAnswered, one_answer}
+use Rattle.wgsl_expressions.proofs.Common.{End, Event, an_expression, Request, Token, Head, IsCalled, IsElement, IsMember, IsOutcome, Outcome, Parts, asked}
+use Rattle.wgsl_expressions.proofs.Common.{is_constant, member_in, operand, outcome_by, part_in, result_of, result_of_call, type_of_answer, asked_behind}
+use Rattle.wgsl_expressions.proofs.Common.{operand_token, Declared, Scope, Becomes, EndsIf, Given, Value, literal_of, with_given, overloads_of, one_of_line}
+use Rattle.wgsl_expressions.proofs.Common.{one_reply_of, word}
 use Rattle.wgsl_forms.specs.Concrete.{has_abstract_type}
-use Rattle.wgsl_forms.specs.Expressions.{Expression}
 use Rattle.wgsl_requests.specs.Forms.{index_of, member_of}
-use Rattle.wgsl_requests.specs.Requests.{WgslRequest, form_of}
-use Rattle.wgsl_requests.proofs.HasOne.{HasOne, behind, known}
-use Rattle.wgsl_requests.proofs.OneReply.{EachAnswered, one_answer}
 use Rattle.wgsl_reader.proofs.OneOutcome.{one_outcome as one_reading}
 use Rattle.wgsl_reader.proofs.SomeOutcome.{some_outcome as some_reading}
 use Rattle.wgsl_reader.specs.declared.grammar.Symbol.TheVariants as symbols
 use Rattle.wgsl_reader.specs.Lists.{listed}
 use Rattle.wgsl_reader.specs.Reading.{Outcome as Read, ReadAt, kind_of}
 use Rattle.wgsl_reader.specs.Tokens.{Tokens, tokens_of}
-use Rattle.wgsl_reader.specs.declared.kind.Kind.TheVariants.{End}
-use Rattle.wgsl_reader.specs.declared.read.Event.{Event}
+use Rattle.wgsl_reader.specs.declared.mark.Mark.{Mark}
+use Rattle.wgsl_reader.specs.declared.mark.Mark.TheVariants as m
 use Rattle.wgsl_reader.specs.declared.rule.Rule.{Rule}
-use Rattle.wgsl_reader.specs.declared.rule.Rule.TheVariants.{Expression as an_expression, Request}
-use Rattle.wgsl_reader.specs.declared.token.Token.{Token}
 use Rattle.wgsl_spelling.specs.Names.{access_named, space_named}
 use Rattle.wgsl_syntax.specs.Names.{named}
-use Rattle.wgsl_expressions.specs.Headings.{Changed, NumberedIfAny, attributes, member_in as member_within, struct_on, with_attribute}
+use Rattle.wgsl_expressions.specs.Headings.{Changed, Membered, NumberedIfAny, attributes, member_in as member_within, struct_on, with_attribute}
 use Rattle.wgsl_expressions.specs.Names.{head_noted}
 use Rattle.wgsl_spelling.specs.Operators.{binary_of, unary_of}
-use Rattle.wgsl_expressions.specs.Outcomes.{Head, IsCalled, IsElement, IsMember, IsOutcome, Outcome, Parts, asked, is_constant, member_in, operand, outcome_by, part_in, result_of, result_of_call, type_of_answer}
-use Rattle.wgsl_expressions.specs.RequestTokens.{asked_behind, operand_token}
-use Rattle.wgsl_expressions.specs.Scopes.{Declared, Scope}
 use Rattle.wgsl_expressions.specs.Source.{Source, byte_at, first_count, kind_at, noted, number_noted, text_at, type_noted}
-use Rattle.wgsl_expressions.specs.Stack.{By, Call, Heading, Item, Next, On, Puts, Top, asked_on, bracket_on, call_on, heading_on, name_on, operand_on, operator_on, with_operand}
-use Rattle.wgsl_expressions.specs.Statements.{Asked, assignment_of, statement_of, types_of, with_value}
-use Rattle.wgsl_expressions.specs.Steps.{Becomes, EndsIf, literal_of, with_given}
-use Rattle.wgsl_expressions.specs.Typing.{Comes, IsAsked, IsTyped, LineIs, MovesBy, MovesIn, NotedBy, State, Step, Steps, TextIs, TokensAre, closed_by, declaration_of, opened_by, step_of, access, annotation, argument, assignment, assignment_by, attribute, binary, bracket, called, declared_member, element, given_type, heading, increment, keyword, literal, member, name, nothing, opening, operator, overloads, question, result, space, struct_type, unary, value}
+use Rattle.wgsl_expressions.specs.Stack.{By, Call, Heading, Item, Next, On, Puts, Top, asked_on, bracket_on, call_on, heading_on, name_on, operand_on, operator_on, with_operand, a_bracket, a_call, a_heading, a_name, a_question, an_asked, an_operand, an_operator, an_overloads}
+use Rattle.wgsl_expressions.specs.Statements.{Asked, assignment_of, statement_of, types_of, with_value, question_on, request_of}
+use Rattle.wgsl_expressions.specs.Typing.{Comes, IsAsked, IsTyped, LineIs, MovesBy, MovesIn, NotedBy, State, Steps, TextIs, TokensAre, closed_by, declaration_of, opened_by}
 use Rattle.wgsl_expressions.specs.declared.heading.Attribute.{Attribute}
+use Rattle.wgsl_requests.specs.Replies.{ReplyText}
+use Rattle.wgsl_expressions.specs.Replies.{AnswersAny, AnswersItem, AnswersParts, AnswersQuestion, IsReplyToText, IsStandardReply}
+use Rattle.wgsl_expressions.specs.declared.statement.Question.{Question}
 
 -- parts, by the requests about them
 
@@ -81,46 +78,63 @@ numbered : (s : Source) (events : List Event) (which : Option Attribute) → Goe
 numbered s events None items = known _
 numbered s events (Some which) items = by_any (number_noted s (slice_range events 1 (length events - 1))) _ (λ n. changed (with_attribute which n)) items
 
+value : GoesOn Value
+value items = on_top (operand_on items) _ (λ x. becomes (with_value x))
+
 module _ (s : Source) (scope : Scope) where
-  steps : (index : ℕ) (step : Step) (count : ℕ) → GoesOn (Steps s scope index step count)
-  steps index literal count items = by_any (slice_get s.tokens (count - 1)) (λ t. with_given true (literal_of s.text t)) (λ t items. known _) items
-  steps index name count items = known _
-  steps index (given_type is_const) count items =
+  given : (is_const : Bool) (index : ℕ) → GoesOn (Given is_const s scope index)
+  given is_const index items =
       on_top (name_on items) _ (λ from. by_any (type_noted s scope (noted s from index)) (λ t. with_given (is_const || has_abstract_type t.0) t.0) (λ t items. known _))
-  steps index opening count items = on_top (name_on items) _ (λ from. by_any (head_noted s scope (noted s from index)) _ (λ head items. known _))
-  steps index bracket count items = known _
-  steps index argument count items = on_top (operand_on items) _ (λ x below. on_top (call_on below) _ (λ call below. known _))
-  steps index called count items = on_top (call_on items) _ (λ call. ends _ call)
-  steps index member count items = on_top (operand_on items) _ (λ x. puts (one_member (byte_at s count) (text_at s count) x))
-  steps index element count items = on_top (operand_on items) _ (λ i below. on_top (bracket_on below) _ (λ at below. on_top (operand_on below) _ (λ x. puts (one_element at x i))))
-  steps index operator count items = known _
-  steps index unary count items = on_top (operand_on items) _ (λ x below. on_top (operator_on below) _ (λ count. by_any (unary_of (kind_at s count)) _ (λ o. ends _ _)))
-  steps index binary count items =
-      on_top (operand_on items) _ (λ y below. on_top (operator_on below) _ (λ count below. on_top (operand_on below) _ (λ x. by_any (binary_of (kind_at s count)) _ (λ o. ends _ _))))
-  steps index keyword count items = by_any (statement_of (kind_at s count)) _ (λ statement. by_any (types_of scope (kind_at s count)) _ (λ types items. known _)) items
-  steps index space count items = by_any (space_named (text_at s count)) _ (λ found. becomes _) items
-  steps index access count items = by_any (access_named (text_at s count)) _ (λ found. becomes _) items
-  steps index annotation count items = on_top (name_on items) _ (λ from. by_any (type_noted s scope (noted s from index)) _ (λ t. becomes _))
-  steps index struct_type count items = on_top (struct_on items) _ (λ t. becomes _)
-  steps index value count items = on_top (operand_on items) _ (λ x. becomes (with_value x))
-  steps index assignment count items = on_top (operand_on items) _ (λ y below. on_top (operand_on below) _ (λ x below. known _))
-  steps index assignment_by count items =
-      on_top (operand_on items) _ (λ y below. on_top (operator_on below) _ (λ count below. on_top (operand_on below) _ (λ x. by_any (assignment_of (text_at s count)) _ (λ o below. known _))))
-  steps index increment count items = on_top (operand_on items) _ (λ x below. known _)
-  steps index (question asked) count items = on_top (call_on items) _ (λ call below. known _)
-  steps index overloads count items = by_any (slice_get s.tokens (count - 1)) _ (λ t items. known _) items
-  steps index heading count items = known _
-  steps index attribute count items = on_top (name_on items) _ (λ from. numbered s (noted s from index) (named attributes (text_at s (first_count (noted s from index)))))
-  steps index declared_member count items =
+
+  membered : (index : ℕ) → GoesOn (Membered s scope index)
+  membered index items =
       on_top (name_on items) _ (λ from below. on_top (name_on below) _ (λ name_at. by_any (type_noted s scope (noted s from index)) _
       (λ t below. on_top (heading_on below) _ (λ h. by_any (member_within (text_at s (first_count (noted s name_at from))) t.0 t.1 h) _ (λ h below. known _)))))
-  steps index result count items = on_top (name_on items) _ (λ from. by_any (type_noted s scope (noted s from index)) _ (λ t. changed _))
-  steps index nothing count items = known _
+
+  steps : (index : ℕ) (mark : Mark) (count : ℕ) → GoesOn (Steps s scope index mark count)
+  steps index m.Literal count items = by_any (slice_get s.tokens (count - 1)) (λ t. with_given true (literal_of s.text t)) (λ t items. known _) items
+  steps index m.Open count items = on_top (name_on items) _ (λ from. by_any (head_noted s scope (noted s from index)) _ (λ head items. known _))
+  steps index m.OpenElement count items = known _
+  steps index m.Argument count items = on_top (operand_on items) _ (λ x below. on_top (call_on below) _ (λ call below. known _))
+  steps index m.Call count items = on_top (call_on items) _ (λ call. ends _ call)
+  steps index m.MemberOf count items = on_top (operand_on items) _ (λ x. puts (one_member (byte_at s count) (text_at s count) x))
+  steps index m.Element count items = on_top (operand_on items) _ (λ i below. on_top (bracket_on below) _ (λ at below. on_top (operand_on below) _ (λ x. puts (one_element at x i))))
+  steps index m.Operator count items = known _
+  steps index m.Unary count items = on_top (operand_on items) _ (λ x below. on_top (operator_on below) _ (λ count. by_any (unary_of (kind_at s count)) _ (λ o. ends _ _)))
+  steps index m.Binary count items =
+      on_top (operand_on items) _ (λ y below. on_top (operator_on below) _ (λ count below. on_top (operand_on below) _ (λ x. by_any (binary_of (kind_at s count)) _ (λ o. ends _ _))))
+  steps index m.Keyword count items = by_any (statement_of (kind_at s count)) _ (λ statement. by_any (types_of scope (kind_at s count)) _ (λ types items. known _)) items
+  steps index m.AddressSpace count items = by_any (space_named (text_at s count)) _ (λ found. becomes _) items
+  steps index m.AccessMode count items = by_any (access_named (text_at s count)) _ (λ found. becomes _) items
+  steps index m.Typed count items = on_top (name_on items) _ (λ from. by_any (type_noted s scope (noted s from index)) _ (λ t. becomes _))
+  steps index m.StructType count items = on_top (struct_on items) _ (λ t. becomes _)
+  steps index m.Assign count items = on_top (operand_on items) _ (λ y below. on_top (operand_on below) _ (λ x below. known _))
+  steps index m.AssignBy count items =
+      on_top (operand_on items) _ (λ y below. on_top (operator_on below) _ (λ count below. on_top (operand_on below) _ (λ x. by_any (assignment_of (text_at s count)) _ (λ o below. known _))))
+  steps index m.Overloads count items = by_any (slice_get s.tokens (count - 1)) _ (λ t items. known _) items
+  steps index m.Heading count items = known _
+  steps index m.Attribute count items = on_top (name_on items) _ (λ from. numbered s (noted s from index) (named attributes (text_at s (first_count (noted s from index)))))
+  steps index m.Result count items = on_top (name_on items) _ (λ from. by_any (type_noted s scope (noted s from index)) _ (λ t. changed _))
+  steps index m.Value count items = given false index items
+  steps index m.Constant count items = given true index items
+  steps index m.Initialized count items = value items
+  steps index m.Condition count items = value items
+  steps index m.Selector count items = value items
+  steps index m.CaseSelector count items = value items
+  steps index m.Returned count items = value items
+  steps index m.Increment count items = on_top (operand_on items) _ (λ x below. known _)
+  steps index m.Decrement count items = on_top (operand_on items) _ (λ x below. known _)
+  steps index m.CallStatement count items = on_top (call_on items) _ (λ call below. known _)
+  steps index m.Resolve count items = on_top (call_on items) _ (λ call below. known _)
+  steps index m.Why count items = on_top (call_on items) _ (λ call below. known _)
+  steps index m.Member count items = membered index items
+  steps index m.Parameter count items = membered index items
+  steps index other count items = known _
 
 module _ (s : Source) where
   moves_by : (declare : Option (Heading → Declared)) (index : ℕ) (e : Event) (state : State) → HasOne EachAnswered (MovesBy declare s index e state)
   moves_by (Some declare) index e state = known _
-  moves_by None index e state = behind (steps s state.0 index (step_of e.mark) e.at state.1) (λ items. known _)
+  moves_by None index e state = behind (steps s state.0 index e.mark e.at state.1) (λ items. known _)
 
   moves : (opened index : ℕ) (e : Event) (state : State) → HasOne EachAnswered (MovesIn opened s index e state)
   moves zero index e state = moves_by (declaration_of e.mark) index e state
@@ -158,3 +172,32 @@ text_is scope text (Err at) = known _
 -- what a text is
 pub one_outcome : (scope : Scope) (text : List ℕ) → HasOne EachAnswered (IsTyped scope text)
 one_outcome scope text = behind (text_is scope text (listed (tokens_of text))) (λ item. known _)
+
+one_of_question : (question : Question) (head : Head) (request : WgslRequest) → HasOne EachAnswered (AnswersQuestion question head request)
+one_of_question question head request = behind (one_answer (question_on request question)) (λ a. known _)
+
+one_of_parts : (Holds : List Expression → ReplyText → Type 0) → ((xs : List Expression) → HasOne EachAnswered (Holds xs)) → (xs : Parts) → HasOne EachAnswered (AnswersParts Holds xs)
+one_of_parts Holds one (Ok xs) = one xs
+one_of_parts Holds one (Err e) = known _
+
+one_of_item : (line : List ℕ) (item : Item) → HasOne EachAnswered (AnswersItem line item)
+one_of_item line (an_operand x) = known _
+one_of_item line (an_asked a) = one_of_parts _ (λ xs. one_reply_of (request_of a.statement a.types (map operand xs))) a.parts
+one_of_item line (a_question question call) = one_of_parts _ (λ xs. one_of_question question call.head (asked call.head xs)) call.parts
+one_of_item line (an_overloads token) = one_reply_of (Some (overloads_of (word line token)))
+one_of_item line (a_name index) = known _
+one_of_item line (an_operator count) = known _
+one_of_item line (a_bracket at) = known _
+one_of_item line (a_call call) = known _
+one_of_item line (a_heading h) = known _
+
+one_of_any : (line : List ℕ) (item : Option (Option Item)) → HasOne EachAnswered (AnswersAny line item)
+one_of_any line None = known _
+one_of_any line (Some None) = known _
+one_of_any line (Some (Some item)) = one_of_item line item
+
+one_to_text : (line : List ℕ) → HasOne EachAnswered (IsReplyToText line)
+one_to_text line = behind (one_asked line) (one_of_any line)
+
+pub one_standard_reply : (line : List ℕ) → HasOne EachAnswered (IsStandardReply line)
+one_standard_reply line = one_of_line (one_to_text line) line

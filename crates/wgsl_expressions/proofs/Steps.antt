@@ -1,21 +1,15 @@
 -- What comes of names and items, step by step.
-use Rattle.std.proofs.Common.{◌≡◌, ◌+◌, ◌<◌, ℕ, List, [], ◌∷◌, Option, Some, None, Ok, option_map, drop, length, slice_index_or, refl, ap, sym, subst, ◌∙◌, arith}
-use Rattle.std.proofs.lemmas.Grind.{common_steps}
+use Rattle.wgsl_expressions.proofs.Common.{◌≡◌, ◌+◌, ◌<◌, ℕ, List, [], ◌∷◌, Option, Some, None, Ok, option_map, drop, length, get_or as slice_index_or, refl}
+use Rattle.wgsl_expressions.proofs.Common.{ap, sym, subst, ◌∙◌, arith, common_steps, Result, Fail, Event, End, Request, Token, asked_behind, Misread}
 use Rattle.std.specs.Result.{IsErrAnd}
-use Rattle.std.specs.Prelude.{Result}
 use Rattle.std.proofs.lemmas.Result.{err_from_is_err_and}
-use Rattle.wgsl_core.specs.declared.error.Fail.{Fail}
 use Rattle.wgsl_core.specs.declared.error.Fail.TheVariants.{Error, Memory}
+use Rattle.wgsl_reader.specs.declared.mark.Mark.{Mark}
+use Rattle.wgsl_reader.specs.declared.mark.Mark.TheVariants as m
 use Rattle.wgsl_expressions.specs.Reading.{Answers, Refuses}
-use Rattle.wgsl_reader.specs.declared.read.Event.{Event}
-use Rattle.wgsl_reader.specs.declared.kind.Kind.TheVariants.{End}
-use Rattle.wgsl_reader.specs.declared.rule.Rule.TheVariants.{Request}
-use Rattle.wgsl_reader.specs.declared.token.Token.{Token}
-use Rattle.wgsl_expressions.specs.RequestTokens.{asked_behind}
 use Rattle.wgsl_expressions.specs.Source.{Source}
 use Rattle.wgsl_expressions.specs.Stack.{Item}
 use Rattle.wgsl_expressions.specs.Typing.{Comes, LineIs, MovesIn, State, TokensAre, closed_by, opened_by}
-use Rattle.wgsl_expressions.specs.declared.misread.Misread.{Misread}
 
 refuses : (N M : Type 0) → (N → M) → (e : Fail Misread) → Refuses N e → Refuses M e
 refuses N M f (Error misread) n = f n
@@ -57,3 +51,9 @@ pub line_with : (line : List ℕ) (tokens : List Token) (item : Option Item) →
     → LineIs line (Ok tokens) (option_map Some item)
 line_with line [] item some is = absurd (some refl)
 line_with line (t ∷ ts) item some is = (item, is, refl)
+
+-- where no list is open none is closed
+pub none_closed : (mark : Mark) → closed_by 0 mark ≡ 0
+none_closed m.Template = refl
+none_closed m.Attribute = refl
+none_closed mark = refl

@@ -1,9 +1,6 @@
 -- What is declared in front of a request: structs and functions.
 use Rattle.std.specs.Prelude.{◌≡◌, ℕ, ◌+◌, ◌-◌, List, [], ◌∷◌, ◌++◌, Option, Some, None, codes, cond, length, map, nat_lt, slice_range}
-use Rattle.wgsl_core.specs.View.{members_of}
-use Rattle.wgsl_reader.specs.declared.read.Event.{Event}
-use Rattle.wgsl_rules.specs.types.Types.{WgslType, struct}
-use Rattle.wgsl_syntax.specs.Names.{named}
+use Rattle.wgsl_expressions.specs.Prelude.{members_of, Event, WgslType, struct, named}
 use Rattle.wgsl_expressions.specs.Scopes.{Declared, Scope, a_function, a_type}
 use Rattle.wgsl_expressions.specs.Source.{Source, first_count, noted, number_noted, text_at, type_noted}
 use Rattle.wgsl_expressions.specs.Stack.{By, Heading, Item, Next, On, Top, a_heading, heading_on, name_on}

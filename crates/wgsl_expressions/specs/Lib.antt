@@ -1,10 +1,10 @@
+pub mod Prelude
 pub mod Source
 pub mod Literals
 pub mod Reading
 pub mod RequestTokens
 pub mod Scopes
 pub mod Outcomes
-pub mod Depth
 pub mod Names
 pub mod Statements
 pub mod Stack

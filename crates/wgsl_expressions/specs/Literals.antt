@@ -1,10 +1,7 @@
 -- The types of literals (WGSL, "Literals"), each of which is one token.
 use Rattle.std.specs.Prelude.{ℕ, ◌-◌, List, ◌∷◌, Option, Some, None, Bool, false, nat_eq, not, ◌&&◌, ◌||◌, cond, length, slice_get}
-use Rattle.std.specs.List.{list_any}
-use Rattle.wgsl_reader.specs.declared.kind.Kind.{Kind}
-use Rattle.wgsl_reader.specs.declared.kind.Kind.TheVariants.{True, False}
+use Rattle.wgsl_expressions.specs.Prelude.{list_any, Kind, True, False, AbstractInt, AbstractFloat, Bool as TheBool, I32, U32, F32, F16}
 use Rattle.wgsl_syntax.specs.declared.scalar.Scalar.{Scalar}
-use Rattle.wgsl_syntax.specs.declared.scalar.Scalar.TheVariants.{AbstractInt, AbstractFloat, Bool as TheBool, I32, U32, F32, F16}
 
 -- `0x`, `0X`
 abbrev pub is_hexadecimal : List ℕ → Bool

@@ -1,11 +1,7 @@
 -- What is called by a name.
-use Rattle.std.specs.Prelude.{ℕ, ◌-◌, ◌++◌, List, [], ◌∷◌, Option, Some, None, Bool, false, ◌||◌, nat_eq, cond, codes, decimal, is_some, length, option_map, slice_range}
-use Rattle.std.specs.Str.{bytes_eq}
-use Rattle.wgsl_rules.specs.types.Signatures.{Parameter, of_type}
-use Rattle.wgsl_rules.specs.types.Spelling.{wgsl_spelling}
-use Rattle.wgsl_rules.specs.types.Types.{WgslType, vec, mat, array, struct}
-use Rattle.wgsl_standard.specs.Callees.{WgslCallee, a_constructor, a_function, overloads_listed}
-use Rattle.wgsl_reader.specs.declared.read.Event.{Event}
+use Rattle.std.specs.Prelude.{ℕ, ◌-◌, ◌++◌, List, [], ◌∷◌, Option, Some, None, Bool, false, ◌||◌, nat_eq, cond, codes, decimal, is_some, length, option_map, slice_range, bytes_eq}
+use Rattle.wgsl_expressions.specs.Prelude.{Parameter, of_type, wgsl_spelling, WgslType, vec, mat, array, struct, WgslCallee, a_constructor, a_function}
+use Rattle.wgsl_expressions.specs.Prelude.{overloads_listed, Event}
 use Rattle.wgsl_expressions.specs.Outcomes.{Head, a_struct, declared, overloaded, typed_array}
 use Rattle.wgsl_expressions.specs.Scopes.{Meaning, Scope, a_function as declared_function, find}
 use Rattle.wgsl_expressions.specs.Source.{Source, first_count, text_at, type_noted}

@@ -1,23 +1,15 @@
--- What the parts of an expression are, by the requests about them.
-use Rattle.std.specs.Prelude.{◌≡◌, ℕ, List, [], ◌∷◌, ◌++◌, Option, Some, None, Result, Ok, Err, Bool, false, true, codes, cond, ◌&&◌, map}
-use Rattle.std.specs.List.{list_all}
+-- What the parts of an expression are, by the requests about them, and how deep their types are nested.
+use Rattle.std.specs.Prelude.{◌≡◌, ℕ, List, [], ◌∷◌, ◌++◌, Option, Some, None, Result, Ok, Err, Bool, false, true, codes, cond, ◌&&◌, map, zero, suc}
+use Rattle.wgsl_expressions.specs.Prelude.{list_all, Operand, Parameter, WgslType, WgslCallee, a_unary, can_be_const_expression, Expression}
+use Rattle.wgsl_expressions.specs.Prelude.{is_const_expression, shown_type, behind, formed_from, is_memory, Whole, Component, Swizzle, function, Answers}
+use Rattle.wgsl_expressions.specs.Prelude.{WgslAnswer, a_fit, a_type_of, a_form_type, type_asked, WgslRequest, fit_of, form_of, answer_text}
 use Rattle.wgsl_syntax.specs.declared.operator.UnaryOperator.TheVariants.{AddressOf}
-use Rattle.wgsl_rules.specs.standard.Choice.{Operand}
-use Rattle.wgsl_rules.specs.types.Signatures.{Parameter}
-use Rattle.wgsl_rules.specs.types.Types.{WgslType}
-use Rattle.wgsl_standard.specs.Callees.{WgslCallee, a_unary, can_be_const_expression}
-use Rattle.wgsl_forms.specs.Expressions.{Expression, is_const_expression, shown_type}
 use Rattle.wgsl_forms.specs.Index.{is_vector}
 use Rattle.wgsl_forms.specs.Member.{is_swizzle}
-use Rattle.wgsl_forms.specs.Memory.{behind, formed_from, is_memory}
 use Rattle.wgsl_forms.specs.declared.form.Referent.{Referent}
-use Rattle.wgsl_forms.specs.declared.form.Referent.TheVariants.{Whole, Component, Swizzle}
-use Rattle.wgsl_forms.specs.Lists.{function}
-use Rattle.wgsl_requests.specs.Answers.{Answers, WgslAnswer, a_fit, a_type_of, a_form_type}
-use Rattle.wgsl_requests.specs.CallForms.{type_asked}
 use Rattle.wgsl_requests.specs.Forms.{address_of, construct_of, index_of, member_of, typed_array_of}
-use Rattle.wgsl_requests.specs.Requests.{WgslRequest, fit_of, form_of}
-use Rattle.wgsl_requests.specs.Texts.{answer_text}
+use Rattle.wgsl_rules.specs.types.Inner.{inner_of}
+use Rattle.wgsl_rules.specs.types.Types.{within, atomic, pointer, reference, binding_array}
 
 -- a part that has no type: the index of its first byte, and why
 pub record Refused : Type 0 where
@@ -150,3 +142,24 @@ result_of head xs t = record { of_type = t; is_constant = is_const_call head xs;
 abbrev pub IsCalled : ℕ → Head → Parts → Outcome → Type 0
 IsCalled at head (Ok xs) r = IsOutcome at (result_of head xs) (result_of_call head) (asked head xs) r
 IsCalled at head (Err e) r = r ≡ Err e
+
+-- there is a type inside of the type
+abbrev pub has_layer : WgslType → Bool
+has_layer (within l t) = true
+has_layer (atomic t) = true
+has_layer (pointer s t m) = true
+has_layer (reference s t m) = true
+has_layer (binding_array n t) = true
+has_layer t = false
+
+-- the type has more than this many layers
+abbrev pub is_deeper : ℕ → WgslType → Bool
+is_deeper zero t = has_layer t
+is_deeper (suc n) t = has_layer t && is_deeper n (inner_of t)
+
+abbrev pub most_layers : ℕ
+most_layers = 255
+
+abbrev pub is_outcome_too_deep : Outcome → Bool
+is_outcome_too_deep (Ok x) = is_deeper most_layers x.of_type
+is_outcome_too_deep (Err e) = false

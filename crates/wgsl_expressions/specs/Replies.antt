@@ -1,21 +1,14 @@
 -- What is replied to a line in WGSL.
 use Rattle.std.specs.Prelude.{IsUtf8, ◌≡◌, ◌+◌, ◌++◌, ℕ, List, [], Option, Some, None, Ok, Err, codes, decimal, map}
-use Rattle.wgsl_rules.specs.types.Spelling.{wgsl_spelling}
-use Rattle.wgsl_forms.specs.Expressions.{Expression, shown_type}
-use Rattle.wgsl_requests.specs.Answers.{Answers, WgslAnswer}
-use Rattle.wgsl_requests.specs.Requests.{WgslRequest, overloads_of}
+use Rattle.wgsl_expressions.specs.Prelude.{wgsl_spelling, Expression, shown_type, Answers, WgslAnswer, WgslRequest, overloads_of, text_kind, word, listed}
+use Rattle.wgsl_expressions.specs.Prelude.{tokens_of, Question}
 use Rattle.wgsl_requests.specs.Replies.{IsReplyOf, OfLine, ReplyText, answer, nothing, unreadable}
-use Rattle.wgsl_requests.specs.Texts.{text_kind}
-use Rattle.wgsl_spelling.specs.Words.{word}
-use Rattle.wgsl_reader.specs.Lists.{listed}
-use Rattle.wgsl_reader.specs.Tokens.{tokens_of}
 use Rattle.wgsl_requests.specs.declared.reply.TextKind.{TextKind}
 use Rattle.wgsl_requests.specs.declared.reply.TextKind.TheVariants as kinds
 use Rattle.wgsl_expressions.specs.Outcomes.{Head, Outcome, Parts, asked, operand}
 use Rattle.wgsl_expressions.specs.Stack.{Item, a_question, an_asked, an_operand, an_overloads}
 use Rattle.wgsl_expressions.specs.Statements.{question_on, request_of, told}
 use Rattle.wgsl_expressions.specs.Typing.{IsAsked}
-use Rattle.wgsl_expressions.specs.declared.statement.Question.{Question}
 
 -- the outcome of an expression: `vec3<f32>`, or ``column 12: no overload of `+` takes (bool, i32)``
 abbrev pub outcome_kind : Outcome → TextKind

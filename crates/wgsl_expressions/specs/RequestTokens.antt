@@ -1,10 +1,7 @@
 -- The tokens of a request, whose first word and `const` have kinds of their own.
 use Rattle.std.specs.Prelude.{ℕ, List, [], ◌∷◌, Option, Some, None, Bool, true, false, ◌&&◌, codes, cond, not}
-use Rattle.wgsl_reader.specs.declared.kind.Kind.{Kind}
+use Rattle.wgsl_expressions.specs.Prelude.{Kind, Token, word, named}
 use Rattle.wgsl_reader.specs.declared.kind.Kind.TheVariants as k
-use Rattle.wgsl_reader.specs.declared.token.Token.{Token}
-use Rattle.wgsl_spelling.specs.Words.{word}
-use Rattle.wgsl_syntax.specs.Names.{named}
 
 -- the words with which what is asked begins, if it is no declaration or statement
 abbrev pub questions : List (Kind × List ℕ)

@@ -1,6 +1,5 @@
 -- The names that a text declares (WGSL, "Declaration and Scope").
-use Rattle.std.specs.Prelude.{ℕ, List, [], ◌∷◌, Option, Some, None, cond}
-use Rattle.std.specs.Str.{bytes_eq}
+use Rattle.std.specs.Prelude.{ℕ, List, [], ◌∷◌, Option, Some, None, cond, bytes_eq}
 use Rattle.wgsl_rules.specs.types.Types.{WgslType}
 
 -- what a name is declared as

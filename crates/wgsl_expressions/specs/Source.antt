@@ -1,14 +1,9 @@
 -- A text, its tokens, and what is noted of them.
 use Rattle.std.specs.Prelude.{ℕ, ◌+◌, ◌-◌, List, [], ◌∷◌, Option, Some, None, cond, length, nat_le, nat_lt, option_map, slice_get, slice_range}
-use Rattle.wgsl_reader.specs.declared.kind.Kind.{Kind}
-use Rattle.wgsl_reader.specs.declared.kind.Kind.TheVariants.{End}
-use Rattle.wgsl_reader.specs.declared.read.Event.{Event}
-use Rattle.wgsl_reader.specs.declared.token.Token.{Token}
-use Rattle.wgsl_rules.specs.types.Types.{WgslType}
+use Rattle.wgsl_expressions.specs.Prelude.{Kind, End, Event, Token, WgslType, word}
 use Rattle.wgsl_constants.specs.Literals.{then}
 use Rattle.wgsl_spelling.specs.Chains.{Chain, name_of, type_of, wrapped}
 use Rattle.wgsl_spelling.specs.Spelled.{chain_of_events, count_of_events}
-use Rattle.wgsl_spelling.specs.Words.{word}
 use Rattle.wgsl_expressions.specs.Scopes.{Scope, type_named}
 
 -- a text, its tokens, and what is noted of them

@@ -1,12 +1,8 @@
 -- What was read of a request and isn't yet part of anything else.
 use Rattle.std.specs.Prelude.{◌≡◌, ℕ, List, ◌∷◌, Option, Some, None, cond}
-use Rattle.wgsl_core.specs.View.{Member}
-use Rattle.wgsl_reader.specs.declared.token.Token.{Token}
-use Rattle.wgsl_rules.specs.types.Types.{WgslType}
-use Rattle.wgsl_expressions.specs.Depth.{is_outcome_too_deep}
-use Rattle.wgsl_expressions.specs.Outcomes.{Head, Outcome, Parts}
+use Rattle.wgsl_expressions.specs.Prelude.{Member, Token, WgslType, Question}
+use Rattle.wgsl_expressions.specs.Outcomes.{is_outcome_too_deep, Head, Outcome, Parts}
 use Rattle.wgsl_expressions.specs.Statements.{Asked}
-use Rattle.wgsl_expressions.specs.declared.statement.Question.{Question}
 
 -- a call with its arguments so far, and the index of its first byte
 pub record Call : Type 0 where

@@ -1,27 +1,19 @@
 -- Declarations, statements and questions over types, and what they ask.
 use Rattle.std.specs.Prelude.{ℕ, List, [], ◌∷◌, ◌++◌, Option, Some, None, Ok, codes, option_map}
-use Rattle.wgsl_syntax.specs.Names.{named, table}
+use Rattle.wgsl_expressions.specs.Prelude.{named, table, AssignmentOperator, Bool as TheBool, Operand, Members, WgslType, scalar, struct, condition, returned}
+use Rattle.wgsl_expressions.specs.Prelude.{Kind, WgslAnswer, a_fit, a_form_type, WgslRequest, common, explanation_of, fit_of, form_of, layout, offsets, rank}
+use Rattle.wgsl_expressions.specs.Prelude.{resolution_of, size, type_of, answer_text, resolution_text, Question}
 use Rattle.wgsl_syntax.specs.Operator.{assignment_operators, assignment_text}
 use Rattle.wgsl_syntax.specs.declared.address.AccessMode.{AccessMode}
 use Rattle.wgsl_syntax.specs.declared.address.AddressSpace.{AddressSpace}
 use Rattle.wgsl_syntax.specs.declared.address.AddressSpace.TheVariants.{Function}
-use Rattle.wgsl_syntax.specs.declared.operator.AssignmentOperator.{AssignmentOperator}
-use Rattle.wgsl_syntax.specs.declared.scalar.Scalar.TheVariants.{Bool as TheBool}
-use Rattle.wgsl_rules.specs.standard.Choice.{Operand}
 use Rattle.wgsl_syntax.specs.declared.rules.RuleSet.TheVariants.{Standard}
-use Rattle.wgsl_rules.specs.types.Types.{Members, WgslType, scalar, struct}
-use Rattle.wgsl_forms.specs.Lists.{condition, returned}
 use Rattle.wgsl_forms.specs.declared.declare.Declaration.{Declaration}
 use Rattle.wgsl_forms.specs.declared.declare.Declaration.TheVariants.{Let, Const, Override}
-use Rattle.wgsl_reader.specs.declared.kind.Kind.{Kind}
 use Rattle.wgsl_reader.specs.declared.kind.Kind.TheVariants as k
 use Rattle.wgsl_requests.specs.Forms.{WgslForm, assignment_of as an_assignment, declaration_of, discard_of, increment_of, initialized_of, load_of, override_of, switch_of, variable_of}
-use Rattle.wgsl_requests.specs.Answers.{WgslAnswer, a_fit, a_form_type}
-use Rattle.wgsl_requests.specs.Requests.{WgslRequest, common, explanation_of, fit_of, form_of, layout, offsets, rank, resolution_of, size, type_of}
-use Rattle.wgsl_requests.specs.Texts.{answer_text, resolution_text}
 use Rattle.wgsl_expressions.specs.Outcomes.{Head, Outcome, Parts, declared, with_part}
 use Rattle.wgsl_expressions.specs.Scopes.{Scope, last_result}
-use Rattle.wgsl_expressions.specs.declared.statement.Question.{Question}
 use Rattle.wgsl_expressions.specs.declared.statement.Question.TheVariants as q
 use Rattle.wgsl_expressions.specs.declared.statement.Statement.{Statement}
 use Rattle.wgsl_expressions.specs.declared.statement.Statement.TheVariants as s

@@ -1,17 +1,9 @@
 -- What is done with what was read, by what is noted.
 use Rattle.std.specs.Prelude.{◌≡◌, ℕ, ◌-◌, List, [], ◌∷◌, Some, None, Ok, Bool, false, true, ◌||◌, length, slice_get}
-use Rattle.wgsl_rules.specs.types.Types.{WgslType, scalar}
+use Rattle.wgsl_expressions.specs.Prelude.{WgslType, scalar, Expression, Whole, Mark, Event, Token, word, a_binary, a_unary, AssignmentOperator, Question}
 use Rattle.wgsl_forms.specs.Concrete.{has_abstract_type}
-use Rattle.wgsl_forms.specs.Expressions.{Expression}
-use Rattle.wgsl_forms.specs.declared.form.Referent.TheVariants.{Whole}
-use Rattle.wgsl_reader.specs.declared.mark.Mark.{Mark}
 use Rattle.wgsl_reader.specs.declared.mark.Mark.TheVariants as m
-use Rattle.wgsl_reader.specs.declared.read.Event.{Event}
-use Rattle.wgsl_reader.specs.declared.token.Token.{Token}
 use Rattle.wgsl_spelling.specs.Names.{access_named, space_named}
-use Rattle.wgsl_spelling.specs.Words.{word}
-use Rattle.wgsl_standard.specs.Callees.{a_binary, a_unary}
-use Rattle.wgsl_syntax.specs.declared.operator.AssignmentOperator.{AssignmentOperator}
 use Rattle.wgsl_syntax.specs.declared.operator.AssignmentOperator.TheVariants.{Equal}
 use Rattle.wgsl_expressions.specs.Headings.{struct_on}
 use Rattle.wgsl_expressions.specs.Literals.{type_of_literal}
@@ -22,7 +14,6 @@ use Rattle.wgsl_expressions.specs.Scopes.{Scope}
 use Rattle.wgsl_expressions.specs.Source.{Source, byte_at, first_count, kind_at, noted, text_at, type_noted}
 use Rattle.wgsl_expressions.specs.Stack.{By, Call, Next, On, Puts, a_call, a_question, an_asked, an_overloads, asked_on, bracket_on, call_on, name_on, operand_on, operator_on, with_operand}
 use Rattle.wgsl_expressions.specs.Statements.{Asked, assignment_of, stated, statement_of, types_of, with_access, with_space, with_type, with_value}
-use Rattle.wgsl_expressions.specs.declared.statement.Question.{Question}
 use Rattle.wgsl_expressions.specs.declared.statement.Statement.{Statement}
 use Rattle.wgsl_expressions.specs.declared.statement.Statement.TheVariants as statements
 

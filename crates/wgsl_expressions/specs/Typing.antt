@@ -1,130 +1,61 @@
 -- What a text is, by what its reading notes: an expression, or a request.
-use Rattle.std.specs.Prelude.{◌≡◌, ℕ, zero, suc, ◌+◌, ◌-◌, List, [], ◌∷◌, Option, Some, None, Ok, Err, Bool, false, true, map, option_map}
-use Rattle.wgsl_reader.specs.Lists.{listed}
+use Rattle.std.specs.Prelude.{◌≡◌, ℕ, zero, suc, ◌+◌, ◌-◌, List, [], ◌∷◌, Option, Some, None, Ok, Err, false, true, map, option_map}
+use Rattle.wgsl_expressions.specs.Prelude.{listed, Tokens, tokens_of, End, Mark, Event, Token}
 use Rattle.wgsl_reader.specs.Reading.{Outcome as Read, ReadAt, kind_of}
-use Rattle.wgsl_reader.specs.Tokens.{Tokens, tokens_of}
 use Rattle.wgsl_reader.specs.declared.grammar.Symbol.TheVariants as s
-use Rattle.wgsl_reader.specs.declared.kind.Kind.TheVariants.{End}
-use Rattle.wgsl_reader.specs.declared.mark.Mark.{Mark}
 use Rattle.wgsl_reader.specs.declared.mark.Mark.TheVariants as m
-use Rattle.wgsl_reader.specs.declared.read.Event.{Event}
 use Rattle.wgsl_reader.specs.declared.rule.Rule.{Rule}
 use Rattle.wgsl_reader.specs.declared.rule.Rule.TheVariants.{Expression as an_expression, Request}
-use Rattle.wgsl_reader.specs.declared.token.Token.{Token}
 use Rattle.wgsl_expressions.specs.Headings.{Attributed, Headed, Membered, Resulted, declared_by, function_declared, struct_declared}
 use Rattle.wgsl_expressions.specs.Outcomes.{Outcome}
 use Rattle.wgsl_expressions.specs.RequestTokens.{asked_behind, operand_token}
 use Rattle.wgsl_expressions.specs.Scopes.{Declared, Scope}
 use Rattle.wgsl_expressions.specs.Source.{Source, byte_at}
 use Rattle.wgsl_expressions.specs.Stack.{Heading, Item, Next, a_bracket, a_name, an_operand, an_operator}
-use Rattle.wgsl_expressions.specs.declared.statement.Question.{Question}
 use Rattle.wgsl_expressions.specs.declared.statement.Question.TheVariants as q
 use Rattle.wgsl_expressions.specs.Steps.{Annotated, Argument, Asks, Assigns, AssignsBy, Begun, Binary, Calls, Element, Given, InSpace, Increments, Literal, Member, Opens, Overloads, Unary, Value, WithAccess, WithStruct}
 
--- what is done where something is noted
-pub data Step : Type 0 where
-  literal : Step
-  name : Step
-  -- an operand that is given by its type: whether `const` stands in front of it
-  given_type : Bool → Step
-  opening : Step
-  bracket : Step
-  argument : Step
-  called : Step
-  member : Step
-  element : Step
-  operator : Step
-  unary : Step
-  binary : Step
-  keyword : Step
-  space : Step
-  access : Step
-  annotation : Step
-  struct_type : Step
-  value : Step
-  assignment : Step
-  assignment_by : Step
-  increment : Step
-  question : Question → Step
-  overloads : Step
-  heading : Step
-  attribute : Step
-  -- of a struct or a function
-  declared_member : Step
-  result : Step
-  -- `(a)` is what `a` is
-  nothing : Step
-
-abbrev pub step_of : Mark → Step
-step_of m.Literal = literal
-step_of m.Name = name
-step_of m.AttributeName = name
-step_of m.Value = given_type false
-step_of m.Constant = given_type true
-step_of m.Open = opening
-step_of m.OpenElement = bracket
-step_of m.Argument = argument
-step_of m.Call = called
-step_of m.MemberOf = member
-step_of m.Element = element
-step_of m.Operator = operator
-step_of m.Unary = unary
-step_of m.Binary = binary
-step_of m.Keyword = keyword
-step_of m.AddressSpace = space
-step_of m.AccessMode = access
-step_of m.Typed = annotation
-step_of m.StructType = struct_type
-step_of m.Initialized = value
-step_of m.Condition = value
-step_of m.Selector = value
-step_of m.CaseSelector = value
-step_of m.Returned = value
-step_of m.Assign = assignment
-step_of m.AssignBy = assignment_by
-step_of m.Increment = increment
-step_of m.Decrement = increment
-step_of m.CallStatement = question q.Type
-step_of m.Resolve = question q.Resolution
-step_of m.Why = question q.Explanation
-step_of m.Overloads = overloads
-step_of m.Heading = heading
-step_of m.Attribute = attribute
-step_of m.Member = declared_member
-step_of m.Parameter = declared_member
-step_of m.Result = result
-step_of other = nothing
-
 -- what is done where something is noted at an index, behind this many tokens, with the names of a scope
-abbrev pub Steps : Source → Scope → ℕ → Step → ℕ → Next
-Steps s scope index literal count items r = Literal s count items r
-Steps s scope index name count items r = r ≡ Some (a_name index ∷ items)
-Steps s scope index (given_type is_const) count items r = Given is_const s scope index items r
-Steps s scope index opening count items r = Opens s scope index items r
-Steps s scope index bracket count items r = r ≡ Some (a_bracket (byte_at s count) ∷ items)
-Steps s scope index argument count items r = Argument items r
-Steps s scope index called count items r = Calls s index items r
-Steps s scope index member count items r = Member s count items r
-Steps s scope index element count items r = Element items r
-Steps s scope index operator count items r = r ≡ Some (an_operator count ∷ items)
-Steps s scope index unary count items r = Unary s index items r
-Steps s scope index binary count items r = Binary s index items r
-Steps s scope index keyword count items r = Begun s scope count items r
-Steps s scope index space count items r = InSpace s count items r
-Steps s scope index access count items r = WithAccess s count items r
-Steps s scope index annotation count items r = Annotated s scope index items r
-Steps s scope index struct_type count items r = WithStruct items r
-Steps s scope index value count items r = Value items r
-Steps s scope index assignment count items r = Assigns items r
-Steps s scope index assignment_by count items r = AssignsBy s items r
-Steps s scope index increment count items r = Increments items r
-Steps s scope index (question asked) count items r = Asks asked items r
-Steps s scope index overloads count items r = Overloads s count items r
-Steps s scope index heading count items r = Headed s count items r
-Steps s scope index attribute count items r = Attributed s index items r
-Steps s scope index declared_member count items r = Membered s scope index items r
-Steps s scope index result count items r = Resulted s scope index items r
-Steps s scope index nothing count items r = r ≡ Some items
+abbrev pub Steps : Source → Scope → ℕ → Mark → ℕ → Next
+Steps s scope index m.Literal count items r = Literal s count items r
+Steps s scope index m.Name count items r = r ≡ Some (a_name index ∷ items)
+Steps s scope index m.AttributeName count items r = r ≡ Some (a_name index ∷ items)
+Steps s scope index m.Value count items r = Given false s scope index items r
+Steps s scope index m.Constant count items r = Given true s scope index items r
+Steps s scope index m.Open count items r = Opens s scope index items r
+Steps s scope index m.OpenElement count items r = r ≡ Some (a_bracket (byte_at s count) ∷ items)
+Steps s scope index m.Argument count items r = Argument items r
+Steps s scope index m.Call count items r = Calls s index items r
+Steps s scope index m.MemberOf count items r = Member s count items r
+Steps s scope index m.Element count items r = Element items r
+Steps s scope index m.Operator count items r = r ≡ Some (an_operator count ∷ items)
+Steps s scope index m.Unary count items r = Unary s index items r
+Steps s scope index m.Binary count items r = Binary s index items r
+Steps s scope index m.Keyword count items r = Begun s scope count items r
+Steps s scope index m.AddressSpace count items r = InSpace s count items r
+Steps s scope index m.AccessMode count items r = WithAccess s count items r
+Steps s scope index m.Typed count items r = Annotated s scope index items r
+Steps s scope index m.StructType count items r = WithStruct items r
+Steps s scope index m.Initialized count items r = Value items r
+Steps s scope index m.Condition count items r = Value items r
+Steps s scope index m.Selector count items r = Value items r
+Steps s scope index m.CaseSelector count items r = Value items r
+Steps s scope index m.Returned count items r = Value items r
+Steps s scope index m.Assign count items r = Assigns items r
+Steps s scope index m.AssignBy count items r = AssignsBy s items r
+Steps s scope index m.Increment count items r = Increments items r
+Steps s scope index m.Decrement count items r = Increments items r
+Steps s scope index m.CallStatement count items r = Asks q.Type items r
+Steps s scope index m.Resolve count items r = Asks q.Resolution items r
+Steps s scope index m.Why count items r = Asks q.Explanation items r
+Steps s scope index m.Overloads count items r = Overloads s count items r
+Steps s scope index m.Heading count items r = Headed s count items r
+Steps s scope index m.Attribute count items r = Attributed s index items r
+Steps s scope index m.Member count items r = Membered s scope index items r
+Steps s scope index m.Parameter count items r = Membered s scope index items r
+Steps s scope index m.Result count items r = Resulted s scope index items r
+-- `(a)` is what `a` is
+Steps s scope index other count items r = r ≡ Some items
 
 -- the names that are declared, and the items
 abbrev pub State : Type 0
@@ -138,7 +69,7 @@ declaration_of other = None
 
 abbrev pub MovesBy : Option (Heading → Declared) → Source → ℕ → Event → State → Option State → Type 0
 MovesBy (Some declare) s index e state r = r ≡ declared_by declare state.0 state.1
-MovesBy None s index e state r = (items : Option (List Item)) × Steps s state.0 index (step_of e.mark) e.at state.1 items × (r ≡ option_map (λ items. (state.0, items)) items)
+MovesBy None s index e state r = (items : Option (List Item)) × Steps s state.0 index e.mark e.at state.1 items × (r ≡ option_map (λ items. (state.0, items)) items)
 
 -- In a list nothing is done: a name has its list.
 abbrev pub MovesIn : ℕ → Source → ℕ → Event → State → Option State → Type 0

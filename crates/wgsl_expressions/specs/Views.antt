@@ -1,18 +1,8 @@
 -- How the code's expressions, heads and items are seen.
 use Rattle.std.specs.Prelude.{◌≡◌, ℕ, List, Result, Ok, Err, Option, Some, None, map, option_map, reverse, string_bytes}
-use Rattle.wgsl_core.specs.Instances.{parameter_view}
-use Rattle.wgsl_rules.specs.types.Types.{WgslType}
-use Rattle.wgsl_requests.specs.Answers.{Answers, WgslAnswer}
-use Rattle.wgsl_requests.specs.FormViews.{form_view}
-use Rattle.wgsl_forms.specs.Lists.{function}
-use Rattle.wgsl_requests.specs.Requests.{WgslRequest, fit_of, form_of, type_of}
-use Rattle.wgsl_requests.specs.StandardViews.{call_view as call_of, written_view}
-use Rattle.wgsl_core.specs.View.{member_view, view}
+use Rattle.wgsl_expressions.specs.Prelude.{parameter_view, WgslType, Answers, WgslAnswer, call_view as call_of, form_view, written_view, function, WgslRequest}
+use Rattle.wgsl_expressions.specs.Prelude.{fit_of, form_of, type_of, member_view, view, Token, a_unary, a_binary, a_function, a_constructor, Expression, Fail}
 use Rattle.wgsl_core.specs.declared.ty.Type.{«Type»}
-use Rattle.wgsl_reader.specs.declared.token.Token.{Token}
-use Rattle.wgsl_standard.specs.Callees.{a_unary, a_binary, a_function, a_constructor}
-use Rattle.wgsl_forms.specs.Expressions.{Expression}
-use Rattle.wgsl_core.specs.declared.error.Fail.{Fail}
 use Rattle.wgsl_expressions.specs.Outcomes.{Head, Outcome, Refused, a_struct, declared, message_of, overloaded, type_of_answer, typed_array}
 use Rattle.wgsl_expressions.specs.Reading.{Answers as AnswersIn}
 use Rattle.wgsl_expressions.specs.Source.{Source}
@@ -28,8 +18,8 @@ use Rattle.wgsl_expressions.specs.declared.scope.Meaning.{Meaning as CodeMeaning
 use Rattle.wgsl_expressions.specs.declared.scope.Meaning.TheVariants as meanings
 use Rattle.wgsl_expressions.specs.declared.scope.Scope.{Scope as CodeScope}
 use Rattle.wgsl_expressions.specs.declared.misread.Misread.{Misread}
-use Rattle.wgsl_expressions.specs.declared.head.Head.{Head as CodeHead}
-use Rattle.wgsl_expressions.specs.declared.head.Head.TheVariants as heads
+use Rattle.wgsl_expressions.specs.declared.outcome.Head.{Head as CodeHead}
+use Rattle.wgsl_expressions.specs.declared.outcome.Head.TheVariants as heads
 use Rattle.wgsl_expressions.specs.declared.source.Source.{Source as CodeSource}
 use Rattle.wgsl_expressions.specs.declared.outcome.Typed.{Typed}
 use Rattle.wgsl_expressions.specs.declared.outcome.Refused.{Refused as CodeRefused}

@@ -1,19 +1,14 @@
 // Requests about the parts of an expression.
-ghost use Rattle.std.specs.Prelude.{◌≡◌, IfOk, None, map, option_map, string_bytes};
-ghost use Rattle.std.specs.List.{list_all};
-ghost use Rattle.wgsl_core.specs.View.{view};
-ghost use Rattle.wgsl_forms.specs.Memory.{formed_from, is_memory};
+ghost use Rattle.std.specs.Prelude.{◌≡◌, ◌∷◌, [], IfOk, None, map, option_map, string_bytes};
+ghost use Rattle.wgsl_expressions.specs.Prelude.{a_binary, list_all, shown_type, view, formed_from, is_memory, form_of, request_view, written_view};
 ghost use Rattle.wgsl_requests.specs.Forms.{index_of, member_of};
-ghost use Rattle.wgsl_requests.specs.Requests.{form_of};
-ghost use Rattle.wgsl_requests.specs.StandardViews.{written_view};
-ghost use Rattle.wgsl_requests.specs.Views.{request_view};
-ghost use Rattle.wgsl_expressions.specs.Outcomes.{IsCalled, IsElement, IsMember, asked, asked_with, is_const_call, is_constant, makes_constant, member_in, operand, operand_by, part_in, referent_of, result_of_call, swizzle_in};
+ghost use Rattle.wgsl_expressions.specs.Outcomes.{IsCalled, IsElement, IsMember, asked, asked_with, is_const_call, is_constant, makes_constant, member_in, no_parts, operand, operand_by, overloaded, part_in, referent_of, result_of_call, swizzle_in, with_part};
+ghost use Rattle.wgsl_expressions.specs.Steps.{given};
 ghost use Rattle.wgsl_expressions.specs.Views.{IsFound, found_outcome, head_view, outcome_view, refused_view, shown, typed_view};
 
 use crate::called::asked_about;
-use crate::head::Head;
-use crate::outcome::{Outcome, Parts, Refused, Typed, behind, shown_type};
-use std::alloc::{AllocError, Global};
+use crate::outcome::{Head, Outcome, Parts, Refused, Typed, behind, given, shown_type};
+use std::alloc::Global;
 use wgsl_core::ty::Type;
 use wgsl_core::ty::form::Form as TypeForm;
 use wgsl_forms::expression::is_const_expression;
@@ -21,45 +16,46 @@ use wgsl_forms::form::Referent;
 use wgsl_forms::member::is_swizzle;
 use wgsl_requests::answers::Answer;
 use wgsl_requests::ask::answer;
-use wgsl_requests::requests::{Form, Request};
+use wgsl_requests::reply::Made;
+use wgsl_requests::requests::{Call, Form, Request};
 use wgsl_requests::write::write;
 use wgsl_standard::callee::{Callee, can_be_const_expression};
 use wgsl_standard::operand::Operand;
 use wgsl_standard::substitution::built;
-use wgsl_syntax::operator::UnaryOperator;
+use wgsl_syntax::operator::{BinaryOperator, UnaryOperator};
+
+/// The type that is answered, or the text of the answer.
+type Found = Result<Type, String>;
 
 /// The type that is answered to a request, or the text of the answer. What is returned is the result of a function, if the
 /// request is whether it takes the values.
-fn type_or_text(
-    alloc: Global,
-    of_result: Option<&Type>,
-    request: Request<'_>,
-) -> Result<Result<Type, String>, AllocError>
+fn type_or_text(alloc: Global, of_result: Option<&Type>, request: Request<'_>) -> Made<Found>
     ensures { IfOk result (λ found. IsFound (option_map (λ t. view t.now) of_result.entry) (request_view request.entry) (shown view string_bytes found)) }
 {
-    match answer(alloc, request)? {
-        Answer::TypeOf(_, Some(found)) => match built(alloc, found)? {
+    match answer(alloc, request) {
+        Ok(Answer::TypeOf(_, Some(found))) => match built(alloc, found)? {
             Some(ty) => Ok(Ok(ty)),
             None => Ok(Err(String::from_str(alloc, "no value")?)),
         },
-        Answer::FormType(Ok(ty)) => Ok(Ok(ty.build(alloc)?)),
-        Answer::Fit(Ok(())) => match of_result {
+        Ok(Answer::FormType(Ok(ty))) => Ok(Ok(ty.build(alloc)?)),
+        Ok(Answer::Fit(Ok(()))) => match of_result {
             Some(ty) => Ok(Ok(ty.clone(alloc)?)),
             None => Ok(Err(String::from_str(alloc, "no value")?)),
         },
-        other => {
+        Ok(other) => {
             let mut text = String::new(alloc);
             let written = write(&other, &mut text);
             drop(other);
             written?;
             Ok(Err(text))
         }
+        Err(error) => Err(error),
     }
 }
 
 /// An expression as an operand of a request.
 #[inline(always)]
-pub(crate) fn operand_of(x: &Typed) -> Operand<'_>
+pub fn operand_of(x: &Typed) -> Operand<'_>
     ensures { written_view result ≡ operand (typed_view x.now) }
 {
     Operand::of(&x.ty, x.is_constant)
@@ -74,12 +70,7 @@ fn is_constant(x: &Typed) -> bool
 }
 
 /// `x.name`, whose name begins at that byte.
-pub(crate) fn member(
-    alloc: Global,
-    at: usize,
-    name: &str,
-    x: Outcome,
-) -> Result<Outcome, AllocError>
+pub fn member(alloc: Global, at: usize, name: &str, x: Outcome) -> Made<Outcome>
     ensures { IfOk result (λ y. IsMember at name.now (outcome_view x) (outcome_view y)) }
 {
     let x = match x {
@@ -93,13 +84,7 @@ pub(crate) fn member(
 }
 
 /// The member of an expression of which this was answered.
-fn member_of(
-    alloc: Global,
-    at: usize,
-    name: &str,
-    x: &Typed,
-    found: Result<Type, String>,
-) -> Result<Outcome, AllocError>
+fn member_of(alloc: Global, at: usize, name: &str, x: &Typed, found: Found) -> Made<Outcome>
     ensures { IfOk result (λ y. outcome_view y ≡ found_outcome at (member_in (typed_view x.now) name.now) (shown view string_bytes found)) }
 {
     if is_swizzle(&operand_of(x), name) {
@@ -110,12 +95,7 @@ fn member_of(
 }
 
 /// The swizzle of an expression of which this was answered.
-fn swizzle_of(
-    alloc: Global,
-    at: usize,
-    x: &Typed,
-    found: Result<Type, String>,
-) -> Result<Outcome, AllocError>
+fn swizzle_of(alloc: Global, at: usize, x: &Typed, found: Found) -> Made<Outcome>
     ensures { IfOk result (λ y. outcome_view y ≡ found_outcome at (swizzle_in (typed_view x.now)) (shown view string_bytes found)) }
 {
     match found {
@@ -129,7 +109,7 @@ fn swizzle_of(
 }
 
 /// What is formed from a type, with the type of a part: in memory a reference to the part.
-fn formed_from(alloc: Global, ty: &Type, part: Type) -> Result<Type, AllocError>
+fn formed_from(alloc: Global, ty: &Type, part: Type) -> Made<Type>
     ensures { IfOk result (λ t. view t ≡ formed_from (view ty.now) (view part)) }
 {
     match ty.form() {
@@ -140,22 +120,14 @@ fn formed_from(alloc: Global, ty: &Type, part: Type) -> Result<Type, AllocError>
     }
 }
 
-fn ask_member<'p>(
-    alloc: Global,
-    x: &'p Typed,
-    name: &'p str,
-) -> Result<Result<Type, String>, AllocError>
+fn ask_member<'p>(alloc: Global, x: &'p Typed, name: &'p str) -> Made<Found>
     ensures { IfOk result (λ found. IsFound None (form_of (member_of (operand (typed_view x.now)) name.now)) (shown view string_bytes found)) }
 {
     let form = Form::Member(operand_of(x), name);
     type_or_text(alloc, None, Request::Form(&form))
 }
 
-fn ask_element<'p>(
-    alloc: Global,
-    x: &'p Typed,
-    index: &'p Typed,
-) -> Result<Result<Type, String>, AllocError>
+fn ask_element<'p>(alloc: Global, x: &'p Typed, index: &'p Typed) -> Made<Found>
     ensures { IfOk result (λ found. IsFound None (form_of (index_of (operand (typed_view x.now)) (operand (typed_view index.now)))) (shown view string_bytes found)) }
 {
     let form = Form::Index(operand_of(x), operand_of(index));
@@ -163,12 +135,7 @@ fn ask_element<'p>(
 }
 
 /// `x[i]`, whose `[` is that byte.
-pub(crate) fn element(
-    alloc: Global,
-    at: usize,
-    x: Outcome,
-    index: Outcome,
-) -> Result<Outcome, AllocError>
+pub fn element(alloc: Global, at: usize, x: Outcome, index: Outcome) -> Made<Outcome>
     ensures { IfOk result (λ y. IsElement at (outcome_view x) (outcome_view index) (outcome_view y)) }
 {
     let x = match x {
@@ -193,7 +160,7 @@ pub(crate) fn element(
 }
 
 /// The part of an expression of which this was answered.
-fn part_of(at: usize, x: &Typed, is_constant: bool, found: Result<Type, String>) -> Outcome
+fn part_of(at: usize, x: &Typed, is_constant: bool, found: Found) -> Outcome
     ensures { outcome_view result ≡ found_outcome at (part_in (typed_view x.now) is_constant) (shown view string_bytes found) }
 {
     match found {
@@ -223,12 +190,7 @@ fn is_memory(ty: &Type) -> bool
 }
 
 /// The outcome of a call or a constructor with its operands, whose first token is at that byte.
-pub(crate) fn call(
-    alloc: Global,
-    at: usize,
-    head: &Head,
-    parts: Parts,
-) -> Result<Outcome, AllocError>
+pub fn call(alloc: Global, at: usize, head: &Head, parts: Parts) -> Made<Outcome>
     ensures { IfOk result (λ r. IsCalled at (head_view head.now) (shown (λ v. map typed_view v.items) refused_view parts) (outcome_view r)) }
 {
     let parts = match parts {
@@ -238,29 +200,79 @@ pub(crate) fn call(
     let found = ask_of(alloc, head, &parts)?;
     let is_constant = is_const_call(head, &parts);
     drop(parts);
+    Ok(outcome_of(at, is_constant, found))
+}
+
+/// The outcome of a binary expression, whose operator is at that byte.
+pub fn binary(
+    alloc: Global,
+    at: usize,
+    operator: BinaryOperator,
+    x: Outcome,
+    y: Outcome,
+) -> Made<Outcome>
+    ensures { IfOk result (λ r. IsCalled at (overloaded (a_binary operator) None) (with_part (with_part no_parts (outcome_view x)) (outcome_view y)) (outcome_view r)) }
+{
+    let x = match x {
+        Ok(x) => x,
+        Err(refused) => {
+            drop(y);
+            return Ok(Err(refused));
+        }
+    };
+    let y = match y {
+        Ok(y) => y,
+        Err(refused) => {
+            drop(x);
+            return Ok(Err(refused));
+        }
+    };
+    let found = ask_binary(alloc, operator, &x, &y)?;
+    let is_constant = is_constant(&x) && is_constant(&y);
+    drop(x);
+    drop(y);
+    Ok(outcome_of(at, is_constant, found))
+}
+
+/// Asks about a binary expression.
+fn ask_binary<'p>(
+    alloc: Global,
+    operator: BinaryOperator,
+    x: &'p Typed,
+    y: &'p Typed,
+) -> Made<Found>
+    ensures { IfOk result (λ found. IsFound None (asked (overloaded (a_binary operator) None) (typed_view x.now ∷ typed_view y.now ∷ [])) (shown view string_bytes found)) }
+{
+    let operands = [value_of(x), value_of(y)];
+    let call = Call {
+        callee: Callee::Binary(operator),
+        template: None,
+        operands: &operands,
+    };
+    type_or_text(alloc, None, Request::Type(&call))
+}
+
+/// The value of a call of which this was answered.
+fn outcome_of(at: usize, is_constant: bool, found: Found) -> Outcome
+    ensures { outcome_view result ≡ found_outcome at (given is_constant) (shown view string_bytes found) }
+{
     match found {
-        Ok(ty) => Ok(Ok(Typed {
-            ty,
-            is_constant,
-            referent: Referent::Whole,
-        })),
-        Err(message) => Ok(Err(Refused { at, message })),
+        Ok(ty) => Ok(given(ty, is_constant)),
+        Err(message) => Err(Refused { at, message }),
     }
 }
 
 /// Asks about what stands in front of operands with them.
-fn ask_of(alloc: Global, head: &Head, parts: &[Typed]) -> Result<Result<Type, String>, AllocError>
+fn ask_of(alloc: Global, head: &Head, parts: &[Typed]) -> Made<Found>
     ensures { IfOk result (λ found. IsFound (result_of_call (head_view head.now)) (asked (head_view head.now) (map typed_view parts.now)) (shown view string_bytes found)) }
 {
     let referent = referent_of(parts);
     match parts {
         [x] => ask_with(alloc, head, referent, &[operand_by(head, x)]),
-        [x, y] => ask_with(
-            alloc,
-            head,
-            referent,
-            &[operand_by(head, x), operand_by(head, y)],
-        ),
+        [x, y] => {
+            let operands = [operand_by(head, x), operand_by(head, y)];
+            ask_with(alloc, head, referent, &operands)
+        }
         _ => {
             let operands = operands_by(alloc, head, parts)?;
             let found = ask_with(alloc, head, referent, &operands);
@@ -275,7 +287,7 @@ fn ask_with<'x>(
     head: &'x Head,
     referent: Referent,
     operands: &'x [Operand<'x>],
-) -> Result<Result<Type, String>, AllocError>
+) -> Made<Found>
     ensures { IfOk result (λ found. IsFound (result_of_call (head_view head.now)) (asked_with (head_view head.now) referent (map written_view operands.now))
         (shown view string_bytes found)) }
 {
@@ -294,7 +306,7 @@ fn result_of_call(head: &Head) -> Option<&Type>
 }
 
 /// What the only operand refers to.
-pub(crate) fn referent_of(parts: &[Typed]) -> Referent
+pub fn referent_of(parts: &[Typed]) -> Referent
     ensures { result ≡ referent_of (map typed_view parts.now) }
 {
     match parts {
@@ -335,11 +347,7 @@ fn makes_constant(head: &Head) -> bool
 }
 
 /// The operands of what stands in front of them.
-pub(crate) fn operands_by<'p>(
-    alloc: Global,
-    head: &Head,
-    parts: &'p [Typed],
-) -> Result<Vec<Operand<'p>>, AllocError>
+pub fn operands_by<'p>(alloc: Global, head: &Head, parts: &'p [Typed]) -> Made<Vec<Operand<'p>>>
     ensures { IfOk result (λ v. map written_view v.items
         ≡ map (operand_by (head_view head.now)) (map typed_view parts.now)) }
 {
@@ -363,6 +371,14 @@ fn operand_by<'p>(head: &Head, x: &'p Typed) -> Operand<'p>
         | Head::Function(_, _)
         | Head::Array(_, _)
         | Head::Struct(_)
-        | Head::Declared(_, _, _) => Operand::of(shown_type(x), x.is_constant),
+        | Head::Declared(_, _, _) => value_of(x),
     }
+}
+
+/// The operand that an expression is of most: a swizzle counts as its value.
+#[inline(always)]
+fn value_of(x: &Typed) -> Operand<'_>
+    ensures { written_view result ≡ record { of_type = shown_type (typed_view x.now); is_constant = x.now.is_constant } }
+{
+    Operand::of(shown_type(x), x.is_constant)
 }

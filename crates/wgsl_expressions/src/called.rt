@@ -1,16 +1,11 @@
 // Requests about calls, by what stands in front of the operands.
 ghost use Rattle.std.specs.Prelude.{◌≡◌, map};
-ghost use Rattle.wgsl_core.specs.View.{view};
-ghost use Rattle.wgsl_requests.specs.CallForms.{type_asked};
-ghost use Rattle.wgsl_requests.specs.FormViews.{form_view};
-ghost use Rattle.wgsl_requests.specs.Requests.{form_of};
-ghost use Rattle.wgsl_requests.specs.StandardViews.{call_view, written_view};
-ghost use Rattle.wgsl_requests.specs.Views.{request_view};
+ghost use Rattle.wgsl_expressions.specs.Prelude.{view, type_asked, call_view, form_view, request_view, written_view, form_of};
 ghost use Rattle.wgsl_expressions.specs.Outcomes.{asked_with, marked};
 ghost use Rattle.wgsl_expressions.specs.Statements.{question_on};
 ghost use Rattle.wgsl_expressions.specs.Views.{called_view, head_view};
 
-use crate::head::Head;
+use crate::outcome::Head;
 use crate::statement::Question;
 use wgsl_core::ty::Type;
 use wgsl_forms::form::Referent;
@@ -22,7 +17,7 @@ use wgsl_standard::operand::Operand;
 
 /// What is asked about a call.
 #[derive(Clone, Copy)]
-pub(crate) enum Called<'r> {
+pub enum Called<'r> {
     /// What has overloads.
     Overloaded(Call<'r>),
     Form(Form<'r>),
@@ -32,7 +27,7 @@ pub(crate) enum Called<'r> {
 
 impl<'r> Called<'r> {
     /// The request.
-    pub(crate) fn request(&'r self) -> Request<'r>
+    pub fn request(&'r self) -> Request<'r>
         ensures { request_view result ≡ called_view self.entry.now }
     {
         match self {
@@ -45,7 +40,7 @@ impl<'r> Called<'r> {
     }
 
     /// The request of a question; what has no overloads is asked for its type.
-    pub(crate) fn question(&'r self, question: Question) -> Request<'r>
+    pub fn question(&'r self, question: Question) -> Request<'r>
         ensures { request_view result ≡ question_on (called_view self.entry.now) question }
     {
         match self {
@@ -64,12 +59,8 @@ impl<'r> Called<'r> {
 
 /// What is asked about a call for its type.
 #[inline(always)]
-pub(crate) fn asked_about<'r>(
-    head: &'r Head,
-    referent: Referent,
-    operands: &'r [Operand<'r>],
-) -> Called<'r>
-    ensures { called_view result ≡ asked_with (head_view head.now) referent (map written_view operands.now) }
+pub fn asked_about<'r>(head: &'r Head, referent: Referent, values: &'r [Operand<'r>]) -> Called<'r>
+    ensures { called_view result ≡ asked_with (head_view head.now) referent (map written_view values.now) }
 {
     let (callee, template) = match head {
         Head::Unary(operator) => (Callee::Unary(*operator), None),
@@ -79,16 +70,16 @@ pub(crate) fn asked_about<'r>(
             template.as_deref(),
         ),
         Head::Function(name, template) => (Callee::Function(name.as_str()), template.as_deref()),
-        Head::Array(ty, count) => return Called::Form(Form::ArrayOf(ty, *count, operands)),
-        Head::Struct(ty) => return Called::Form(Form::Construct(ty, operands)),
+        Head::Array(ty, count) => return Called::Form(Form::ArrayOf(ty, *count, values)),
+        Head::Struct(ty) => return Called::Form(Form::Construct(ty, values)),
         Head::Declared(name, parameters, _) => {
-            return Called::Declared(name.as_str(), operands, parameters);
+            return Called::Declared(name.as_str(), values, parameters);
         }
     };
     let call = Call {
         callee,
         template,
-        operands,
+        operands: values,
     };
     overloaded(call, referent)
 }

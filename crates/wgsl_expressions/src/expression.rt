@@ -1,21 +1,19 @@
 // What a text is: an expression, a declaration or a statement.
 ghost use Rattle.std.specs.Prelude.{◌≡◌, ◌+◌, ◌<◌, ◌≤◌, ◌^◌, [], Ok, map};
-ghost use Rattle.wgsl_reader.specs.Lists.{listed};
-ghost use Rattle.wgsl_reader.specs.Tokens.{tokens_of};
-ghost use Rattle.wgsl_expressions.specs.Reading.{IsMisread};
+ghost use Rattle.wgsl_expressions.specs.Prelude.{listed, tokens_of};
 ghost use Rattle.wgsl_expressions.specs.RequestTokens.{asked_behind, operand_token};
 ghost use Rattle.wgsl_expressions.specs.Typing.{MovesBy, MovesIn, NotedBy, TextIs, TokensAre, closed_by, declaration_of, opened_by, whole};
 ghost use Rattle.wgsl_expressions.specs.Views.{AsksIn, Finds, IsAskedLine, IsTypedText, Moves, items_view, scope_view, source_view};
 
 use crate::heading::{declare_function, declare_struct};
-use crate::item::Item;
-use crate::misread::{Misread, Wanted};
+use crate::item::{Item, Items};
+use crate::misread::{Misread, Read, Wanted, expecting};
 use crate::outcome::Outcome;
 use crate::request_token::{as_asked, as_operand};
 use crate::scope::Scope;
 use crate::source::Source;
 use crate::step::step;
-use std::alloc::{AllocError, Global};
+use std::alloc::Global;
 use wgsl_core::error::Fail;
 use wgsl_reader::expected::may_stand_behind;
 use wgsl_reader::kind::Kind;
@@ -24,6 +22,7 @@ use wgsl_reader::mark::Mark;
 use wgsl_reader::read::{Event, read};
 use wgsl_reader::rule::Rule;
 use wgsl_reader::token::Token;
+use wgsl_requests::reply::Made;
 use wgsl_spelling::operator::binary_of;
 
 /// What is expected where a token of such a kind may stand.
@@ -45,27 +44,20 @@ static WANTED: &[(Kind, Wanted)] = &[
 
 /// The type of the expression that a text spells (WGSL, "Expressions"), with the names of a scope, or its first part without a type
 /// and why. The error says from where on the text is no expression.
-pub fn type_of_expression(
-    alloc: Global,
-    scope: &mut Scope,
-    text: &str,
-) -> Result<Outcome, Fail<Misread>>
+pub fn type_of_expression(alloc: Global, scope: &mut Scope, text: &str) -> Read<Outcome>
     ensures { IsTypedText (scope_view scope.old) text.now result }
 {
     match item_of_text(alloc, scope, text)? {
         Item::Operand(x) => Ok(x),
         other => {
             drop(other);
-            Err(Fail::Error(Misread {
-                at: 0,
-                wanted: Wanted::Operand,
-            }))
+            Err(expecting(0, Wanted::Operand))
         }
     }
 }
 
 /// What the tokens of a text are as an expression.
-fn item_of_text(alloc: Global, scope: &mut Scope, text: &str) -> Result<Item, Fail<Misread>>
+fn item_of_text(alloc: Global, scope: &mut Scope, text: &str) -> Read<Item>
     ensures { Finds (TextIs (scope_view scope.old) text.now (listed (tokens_of text.now))) result }
 {
     match tokens_of(alloc, text.as_bytes())? {
@@ -76,35 +68,22 @@ fn item_of_text(alloc: Global, scope: &mut Scope, text: &str) -> Result<Item, Fa
             drop(tokens);
             item
         }
-        Err(at) => Err(no_token(at)),
+        Err(at) => Err(expecting(at, Wanted::Token)),
     }
 }
 
-fn no_token(at: usize) -> Fail<Misread>
-    ensures { IsMisread result }
-{
-    Fail::Error(Misread {
-        at,
-        wanted: Wanted::Token,
-    })
-}
-
 /// What a line asks; None if it has no tokens. The error says from where on it is no request.
-pub(crate) fn item_of_line(alloc: Global, line: &str) -> Result<Option<Item>, Fail<Misread>>
+pub(crate) fn item_of_line(alloc: Global, line: &str) -> Read<Option<Item>>
     ensures { IsAskedLine line.now result }
 {
     match tokens_of(alloc, line.as_bytes())? {
         Ok(tokens) => item_of_asked(alloc, line, tokens),
-        Err(at) => Err(no_token(at)),
+        Err(at) => Err(expecting(at, Wanted::Token)),
     }
 }
 
 /// What the tokens of a line ask; None if there are none.
-fn item_of_asked(
-    alloc: Global,
-    line: &str,
-    tokens: Vec<Token>,
-) -> Result<Option<Item>, Fail<Misread>>
+fn item_of_asked(alloc: Global, line: &str, tokens: Vec<Token>) -> Read<Option<Item>>
     ensures { AsksIn line.now tokens.items result }
 {
     if tokens.is_empty() {
@@ -115,7 +94,7 @@ fn item_of_asked(
 }
 
 /// What the tokens of a line ask, which has some.
-fn item_of_some(alloc: Global, line: &str, tokens: Vec<Token>) -> Result<Item, Fail<Misread>>
+fn item_of_some(alloc: Global, line: &str, tokens: Vec<Token>) -> Read<Item>
     ensures { Finds (TokensAre [] Rule.Request line.now (asked_behind line.now Kind.End tokens.items)) result }
 {
     let mut tokens = tokens;
@@ -145,7 +124,7 @@ fn item_of_tokens(
     rule: Rule,
     text: &str,
     tokens: &[Token],
-) -> Result<Item, Fail<Misread>>
+) -> Read<Item>
     ensures { Finds (TokensAre (scope_view scope.old) rule text.now tokens.now) result }
 {
     match read(alloc, rule, tokens, 0)? {
@@ -165,10 +144,11 @@ fn item_of_events(
     text: &str,
     tokens: &[Token],
     events: &[Event],
-) -> Result<Item, Fail<Misread>>
+) -> Read<Item>
     ensures { Finds (NotedBy (scope_view scope.old) text.now tokens.now (Ok events.now)) result }
 {
     let source = Source {
+        alloc,
         text,
         tokens,
         events,
@@ -179,55 +159,57 @@ fn item_of_events(
     while index < events.len() {
         let event = events[index];
         opened = closed_by(opened, event.mark);
-        step_in(alloc, source, scope, opened, index, event, &mut items)?;
+        step_in(&source, scope, opened, index, event, &mut items)?;
         opened = opened_by(opened, event.mark);
         index += 1;
     }
-    whole(source, items)
+    whole(&source, items)
 }
 
 /// Does with the names and the items what is noted at an index, where this many lists are open. In a list nothing is done: a name has
 /// its list.
 fn step_in(
-    alloc: Global,
-    source: Source<'_>,
+    source: &Source<'_>,
     scope: &mut Scope,
     opened: usize,
     index: usize,
     event: Event,
-    items: &mut Vec<Item>,
-) -> Result<(), Fail<Misread>>
-    ensures { Moves (MovesIn opened (source_view source.entry) index event (scope_view scope.old, items_view items.old.items)) scope.new items.new.items result }
+    items: &mut Items,
+) -> Read<()>
+    ensures { Moves (MovesIn opened (source_view source.now) index event (scope_view scope.old, items_view items.old.items)) scope.new items.new.items result }
 {
     if opened == 0 {
-        declare_or_step(alloc, source, scope, index, event, items)
+        declare_or_step(source, scope, index, event, items)
     } else {
         Ok(())
     }
 }
 
 fn declare_or_step(
-    alloc: Global,
-    source: Source<'_>,
+    source: &Source<'_>,
     scope: &mut Scope,
     index: usize,
     event: Event,
-    items: &mut Vec<Item>,
-) -> Result<(), Fail<Misread>>
-    ensures { Moves (MovesBy (declaration_of event.mark) (source_view source.entry) index event (scope_view scope.old, items_view items.old.items)) scope.new items.new.items result }
+    items: &mut Items,
+) -> Read<()>
+    ensures { Moves (MovesBy (declaration_of event.mark) (source_view source.now) index event (scope_view scope.old, items_view items.old.items)) scope.new items.new.items result }
 {
     match event.mark {
-        Mark::Struct => declare_struct(alloc, source, scope, items),
-        Mark::Function => declare_function(alloc, source, scope, items),
-        _ => step(alloc, source, scope, index, event, items),
+        Mark::Struct => declare_struct(source, scope, items),
+        Mark::Function => declare_function(source, scope, items),
+        _ => step(source, scope, index, event, items),
     }
 }
 
 /// How many lists are open behind the end of a template list or of an attribute.
+#[tactic(auto, using(crate::proofs::Steps::none_closed))]
 fn closed_by(opened: usize, mark: Mark) -> usize
     ensures exact { result ≡ closed_by opened mark }
     ensures few { result ≤ opened }
 {
+    if opened == 0 {
+        return 0;
+    }
     match mark {
         Mark::Template | Mark::Attribute => opened.saturating_sub(1),
         _ => opened,
@@ -247,7 +229,7 @@ fn opened_by(opened: usize, mark: Mark) -> usize
 }
 
 /// The one item that is left.
-fn whole(source: Source<'_>, items: Vec<Item>) -> Result<Item, Fail<Misread>>
+fn whole(source: &Source<'_>, items: Vec<Item>) -> Read<Item>
     ensures { Finds (λ r. r ≡ whole (items_view items.items)) result }
 {
     let mut items = items;
@@ -271,19 +253,15 @@ fn misread_at(
     text: &str,
     tokens: &[Token],
     count: usize,
-) -> Result<Misread, AllocError> {
+) -> Made<Misread> {
     match (tokens.get(count.saturating_sub(1)), tokens.get(count)) {
         (Some(number), Some(token)) if is_in_number(*number, *token) => Ok(Misread {
             at: number.at,
             wanted: Wanted::Operand,
         }),
-        (_, Some(token)) => Ok(Misread {
-            at: token.at,
-            wanted: wanted_at(alloc, rule, tokens, count, Some(token.kind))?,
-        }),
-        (_, None) => Ok(Misread {
-            at: text.len(),
-            wanted: wanted_at(alloc, rule, tokens, count, None)?,
+        (_, next) => Ok(Misread {
+            at: next.map_or(text.len(), |token| token.at),
+            wanted: wanted_at(alloc, rule, tokens, count)?,
         }),
     }
 }
@@ -295,23 +273,17 @@ fn is_in_number(number: Token, token: Token) -> bool {
         && matches!(token.kind, Kind::Name | Kind::Number)
 }
 
-/// What may stand behind that many tokens, in place of a token of this kind.
-fn wanted_at(
-    alloc: Global,
-    rule: Rule,
-    tokens: &[Token],
-    count: usize,
-    next: Option<Kind>,
-) -> Result<Wanted, AllocError> {
+/// What may stand behind that many tokens, in place of the next one.
+fn wanted_at(alloc: Global, rule: Rule, tokens: &[Token], count: usize) -> Made<Wanted> {
     let front = tokens.get(..count).unwrap_or(tokens);
-    match (first_wanted(alloc, rule, front)?, next) {
-        (Wanted::End, Some(kind)) if binary_of(kind).is_some() => Ok(Wanted::Grouping),
+    match (first_wanted(alloc, rule, front)?, tokens.get(count)) {
+        (Wanted::End, Some(token)) if binary_of(token.kind).is_some() => Ok(Wanted::Grouping),
         (wanted, _) => Ok(wanted),
     }
 }
 
 /// What may stand behind these tokens.
-fn first_wanted(alloc: Global, rule: Rule, tokens: &[Token]) -> Result<Wanted, AllocError> {
+fn first_wanted(alloc: Global, rule: Rule, tokens: &[Token]) -> Made<Wanted> {
     for (kind, wanted) in WANTED {
         if may_stand_behind(alloc, rule, tokens, *kind)? {
             return Ok(*wanted);

@@ -1,8 +1,6 @@
 // The forms that declarations and statements are.
 ghost use Rattle.std.specs.Prelude.{◌≡◌, map, option_map};
-ghost use Rattle.wgsl_core.specs.View.{view};
-ghost use Rattle.wgsl_requests.specs.FormViews.{form_view};
-ghost use Rattle.wgsl_requests.specs.StandardViews.{written_view};
+ghost use Rattle.wgsl_expressions.specs.Prelude.{view, form_view, written_view};
 ghost use Rattle.wgsl_expressions.specs.Statements.{assignment_form, declaration_form, form_stated, only, switch_form, undefined_form, variable_form};
 
 use crate::statement::Statement;
@@ -14,7 +12,7 @@ use wgsl_syntax::address::{AccessMode, AddressSpace};
 use wgsl_syntax::operator::AssignmentOperator;
 
 /// The form that a statement is, with its type and its values.
-pub(crate) fn form_of<'r>(
+pub fn form_of<'r>(
     statement: Statement,
     ty: Option<&'r Type>,
     operands: &'r [Operand<'r>],

@@ -1,23 +1,22 @@
 // What is declared in front of a request: structs and functions.
 ghost use Rattle.std.specs.Prelude.{◌≡◌, ◌+◌, ◌<◌, IfOk, map, string_bytes};
-ghost use Rattle.wgsl_core.specs.View.{member_view, view};
-ghost use Rattle.wgsl_syntax.specs.Names.{named};
+ghost use Rattle.wgsl_expressions.specs.Prelude.{member_view, view, named};
 ghost use Rattle.wgsl_expressions.specs.Headings.{Attributed, Changed, Headed, MemberIn, Membered, Numbered, Resulted, attributes, declared_by, function_declared, struct_declared, struct_of, struct_on, with_attribute, with_member, with_result};
 ghost use Rattle.wgsl_expressions.specs.Views.{Does, Moves, Takes, declared_view, heading_view, items_view, scope_view, source_view};
 
-use crate::depth::MOST_INSIDE;
-use crate::item::{Item, push, take_heading, take_name};
-use crate::misread::{Misread, Wanted, untyped};
+use crate::item::{Item, Items, push, take_heading, take_name};
+use crate::misread::{Read, Wanted, untyped};
+use crate::outcome::MOST_INSIDE;
 use crate::scope::{Meaning, Scope};
 use crate::source::{Source, between, first_count};
-use std::alloc::{AllocError, Global};
-use wgsl_core::error::Fail;
+use std::alloc::Global;
 use wgsl_core::ty::{StructMemberType, StructType, Type};
 use wgsl_reader::read::Event;
+use wgsl_requests::reply::Made;
 
 /// A struct with its members so far, or a function with its parameters so far.
 #[derive(Drop)]
-pub(crate) struct Heading {
+pub struct Heading {
     pub name: String,
     pub members: Vec<StructMemberType>,
     /// How many types are inside: one per member, and those inside the members' types.
@@ -30,17 +29,12 @@ pub(crate) struct Heading {
 }
 
 /// `struct S`, `fn f`
-pub(crate) fn begin_heading(
-    alloc: Global,
-    source: Source<'_>,
-    count: usize,
-    items: &mut Vec<Item>,
-) -> Result<(), Fail<Misread>>
-    ensures { Does (Headed (source_view source.entry) count (items_view items.old.items)) items.new.items result }
+pub fn begin_heading(source: &Source<'_>, count: usize, items: &mut Items) -> Read<()>
+    ensures { Does (Headed (source_view source.now) count (items_view items.old.items)) items.new.items result }
 {
     let heading = Heading {
-        name: String::from_str(alloc, source.text_at(count))?,
-        members: Vec::new(alloc),
+        name: String::from_str(source.alloc, source.text_at(count))?,
+        members: Vec::new(source.alloc),
         inside: 0,
         size: None,
         align: None,
@@ -57,18 +51,13 @@ pub enum Attribute {
 }
 
 /// `@size(16)`, noted from its name on. Other attributes say nothing of a type.
-pub(crate) fn put_attribute(
-    alloc: Global,
-    source: Source<'_>,
-    index: usize,
-    items: &mut Vec<Item>,
-) -> Result<(), Fail<Misread>>
-    ensures { Does (Attributed (source_view source.entry) index (items_view items.old.items)) items.new.items result }
+pub fn put_attribute(source: &Source<'_>, index: usize, items: &mut Items) -> Read<()>
+    ensures { Does (Attributed (source_view source.now) index (items_view items.old.items)) items.new.items result }
 {
     let from = take_name(source, items)?;
     let noted = source.noted(from, index);
     match attribute_named(source.text_at(first_count(noted))) {
-        Some(attribute) => put_number(alloc, source, attribute, noted, items),
+        Some(attribute) => put_number(source, attribute, noted, items),
         None => Ok(()),
     }
 }
@@ -84,32 +73,21 @@ fn attribute_named(name: &str) -> Option<Attribute>
 }
 
 /// The number of an attribute, which is noted between its name and the end of its only argument.
-fn put_number(
-    alloc: Global,
-    source: Source<'_>,
-    attribute: Attribute,
-    noted: &[Event],
-    items: &mut Vec<Item>,
-) -> Result<(), Fail<Misread>>
-    ensures { Does (Numbered (source_view source.entry) noted.now attribute (items_view items.old.items)) items.new.items result }
+fn put_number(source: &Source<'_>, which: Attribute, noted: &[Event], items: &mut Items) -> Read<()>
+    ensures { Does (Numbered (source_view source.now) noted.now which (items_view items.old.items)) items.new.items result }
 {
     let value = between(noted, 1, noted.len().saturating_sub(1));
-    match source.number_noted(alloc, value)? {
-        Ok(number) => put_attribute_of(source, attribute, number, items),
+    match source.number_noted(value)? {
+        Ok(number) => set_attribute(source, which, number, items),
         Err(fault) => Err(untyped(fault, Wanted::Number)),
     }
 }
 
-fn put_attribute_of(
-    source: Source<'_>,
-    attribute: Attribute,
-    number: u32,
-    items: &mut Vec<Item>,
-) -> Result<(), Fail<Misread>>
-    ensures { Does (Changed (with_attribute attribute number) (items_view items.old.items)) items.new.items result }
+fn set_attribute(source: &Source<'_>, which: Attribute, number: u32, items: &mut Items) -> Read<()>
+    ensures { Does (Changed (with_attribute which number) (items_view items.old.items)) items.new.items result }
 {
     let mut heading = take_heading(source, items)?;
-    match attribute {
+    match which {
         Attribute::Size => heading.size = Some(number),
         Attribute::Align => heading.align = Some(number),
     }
@@ -117,32 +95,19 @@ fn put_attribute_of(
 }
 
 /// `a: T` of a struct or a function
-pub(crate) fn put_member(
-    alloc: Global,
-    source: Source<'_>,
-    scope: &Scope,
-    index: usize,
-    items: &mut Vec<Item>,
-) -> Result<(), Fail<Misread>>
-    ensures { Does (Membered (source_view source.entry) (scope_view scope.now) index (items_view items.old.items)) items.new.items result }
+pub fn put_member(source: &Source<'_>, scope: &Scope, index: usize, items: &mut Items) -> Read<()>
+    ensures { Does (Membered (source_view source.now) (scope_view scope.now) index (items_view items.old.items)) items.new.items result }
 {
     let from = take_name(source, items)?;
     let named = take_name(source, items)?;
     let name = source.text_at(first_count(source.noted(named, from)));
-    match source.type_noted(alloc, scope, source.noted(from, index))? {
-        Ok((ty, inside)) => put_typed(alloc, source, name, ty, inside, items),
+    match source.type_noted(scope, source.noted(from, index))? {
+        Ok((ty, inside)) => put_type(source, name, ty, inside, items),
         Err(fault) => Err(untyped(fault, Wanted::Type)),
     }
 }
 
-fn put_typed(
-    alloc: Global,
-    source: Source<'_>,
-    name: &str,
-    ty: Type,
-    inside: usize,
-    items: &mut Vec<Item>,
-) -> Result<(), Fail<Misread>>
+fn put_type(source: &Source<'_>, name: &str, ty: Type, inside: usize, items: &mut Items) -> Read<()>
     ensures { Does (MemberIn name.now (view ty, inside) (items_view items.old.items)) items.new.items result }
 {
     let heading = take_heading(source, items)?;
@@ -151,19 +116,13 @@ fn put_typed(
         drop(ty);
         return Err(source.misread(1, Wanted::Shallower));
     }
-    let heading = heading.with_member(alloc, name, ty, inside)?;
+    let heading = heading.with_member(source.alloc, name, ty, inside)?;
     push(Item::Heading(heading), items)
 }
 
 impl Heading {
     /// One more member, with the attributes in front of it.
-    fn with_member(
-        self,
-        alloc: Global,
-        name: &str,
-        ty: Type,
-        inside: usize,
-    ) -> Result<Heading, AllocError>
+    fn with_member(self, alloc: Global, name: &str, ty: Type, inside: usize) -> Made<Heading>
         requires { self.inside + inside < 255 }
         ensures { IfOk result (λ h. heading_view h ≡ with_member name.now (view ty) inside (heading_view self)) }
     {
@@ -182,36 +141,25 @@ impl Heading {
     }
 
     /// The struct.
-    fn structure(self, alloc: Global) -> Result<Type, AllocError>
+    fn structure(self, alloc: Global) -> Made<Type>
         ensures { IfOk result (λ t. view t ≡ struct_of (heading_view self)) }
     {
-        let Heading {
-            name,
-            members,
-            result,
-            ..
-        } = self;
-        drop(result);
+        let (name, members) = (self.name, self.members);
+        drop(self.result);
         Type::from_struct(alloc, StructType { name, members })
     }
 
     /// The function.
-    fn function(self, alloc: Global) -> Result<(String, Meaning), AllocError>
+    fn function(self, alloc: Global) -> Made<(String, Meaning)>
         ensures { IfOk result (λ d. declared_view (record { name = d.0; meaning = d.1 }) ≡ function_declared (heading_view self)) }
     {
-        let Heading {
-            name,
-            members,
-            result,
-            ..
-        } = self;
-        let parameters = types_of(alloc, members)?;
-        Ok((name, Meaning::Function(parameters, result)))
+        let parameters = types_of(alloc, self.members)?;
+        Ok((self.name, Meaning::Function(parameters, self.result)))
     }
 }
 
 /// The types of members.
-fn types_of(alloc: Global, members: Vec<StructMemberType>) -> Result<Vec<Type>, AllocError>
+fn types_of(alloc: Global, members: Vec<StructMemberType>) -> Made<Vec<Type>>
     ensures { IfOk result (λ types. map view types.items ≡ map (λ m. m.ty) (map member_view members.items)) }
 {
     let mut types = Vec::with_capacity(alloc, members.len())?;
@@ -224,23 +172,17 @@ fn types_of(alloc: Global, members: Vec<StructMemberType>) -> Result<Vec<Type>, 
 }
 
 /// `-> T`
-pub(crate) fn put_result(
-    alloc: Global,
-    source: Source<'_>,
-    scope: &Scope,
-    index: usize,
-    items: &mut Vec<Item>,
-) -> Result<(), Fail<Misread>>
-    ensures { Does (Resulted (source_view source.entry) (scope_view scope.now) index (items_view items.old.items)) items.new.items result }
+pub fn put_result(source: &Source<'_>, scope: &Scope, index: usize, items: &mut Items) -> Read<()>
+    ensures { Does (Resulted (source_view source.now) (scope_view scope.now) index (items_view items.old.items)) items.new.items result }
 {
     let from = take_name(source, items)?;
-    match source.type_noted(alloc, scope, source.noted(from, index))? {
+    match source.type_noted(scope, source.noted(from, index))? {
         Ok((ty, _)) => put_result_type(source, ty, items),
         Err(fault) => Err(untyped(fault, Wanted::Type)),
     }
 }
 
-fn put_result_type(source: Source<'_>, ty: Type, items: &mut Vec<Item>) -> Result<(), Fail<Misread>>
+fn put_result_type(source: &Source<'_>, ty: Type, items: &mut Items) -> Read<()>
     ensures { Does (Changed (with_result (view ty)) (items_view items.old.items)) items.new.items result }
 {
     let mut heading = take_heading(source, items)?;
@@ -249,44 +191,30 @@ fn put_result_type(source: Source<'_>, ty: Type, items: &mut Vec<Item>) -> Resul
 }
 
 /// Takes the struct on top, with the number of types inside it.
-pub(crate) fn take_struct(
-    alloc: Global,
-    source: Source<'_>,
-    items: &mut Vec<Item>,
-) -> Result<(Type, usize), Fail<Misread>>
+pub fn take_struct(source: &Source<'_>, items: &mut Items) -> Read<(Type, usize)>
     ensures { Takes (λ t. (view t.0, t.1)) (struct_on (items_view items.old.items)) items.new.items result }
 {
     let heading = take_heading(source, items)?;
     let inside = heading.inside;
-    Ok((heading.structure(alloc)?, inside))
+    Ok((heading.structure(source.alloc)?, inside))
 }
 
 /// Declares the struct on top.
-pub(crate) fn declare_struct(
-    alloc: Global,
-    source: Source<'_>,
-    scope: &mut Scope,
-    items: &mut Vec<Item>,
-) -> Result<(), Fail<Misread>>
+pub fn declare_struct(source: &Source<'_>, scope: &mut Scope, items: &mut Items) -> Read<()>
     ensures { Moves (λ r. r ≡ declared_by struct_declared (scope_view scope.old) (items_view items.old.items)) scope.new items.new.items result }
 {
     let heading = take_heading(source, items)?;
     let inside = heading.inside;
-    let name = String::from_str(alloc, heading.name.as_str())?;
-    let ty = heading.structure(alloc)?;
+    let name = String::from_str(source.alloc, heading.name.as_str())?;
+    let ty = heading.structure(source.alloc)?;
     Ok(scope.declare(name, Meaning::Type(ty, inside))?)
 }
 
 /// Declares the function on top.
-pub(crate) fn declare_function(
-    alloc: Global,
-    source: Source<'_>,
-    scope: &mut Scope,
-    items: &mut Vec<Item>,
-) -> Result<(), Fail<Misread>>
+pub fn declare_function(source: &Source<'_>, scope: &mut Scope, items: &mut Items) -> Read<()>
     ensures { Moves (λ r. r ≡ declared_by function_declared (scope_view scope.old) (items_view items.old.items)) scope.new items.new.items result }
 {
     let heading = take_heading(source, items)?;
-    let (name, meaning) = heading.function(alloc)?;
+    let (name, meaning) = heading.function(source.alloc)?;
     Ok(scope.declare(name, meaning)?)
 }

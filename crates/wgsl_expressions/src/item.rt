@@ -4,11 +4,9 @@ ghost use Rattle.wgsl_expressions.specs.Reading.{IsMisread};
 ghost use Rattle.wgsl_expressions.specs.Stack.{asked_on, bracket_on, call_on, heading_on, name_on, operand_on, operator_on, with_operand};
 ghost use Rattle.wgsl_expressions.specs.Views.{Does, Takes, asked_view, call_view, heading_view, item_view, items_view, outcome_view, same};
 
-use crate::depth::is_too_deep;
-use crate::head::Head;
 use crate::heading::Heading;
-use crate::misread::{Misread, Wanted};
-use crate::outcome::{Outcome, Parts};
+use crate::misread::{Misread, Read, Wanted};
+use crate::outcome::{Head, Outcome, Parts, is_too_deep};
 use crate::source::Source;
 use crate::statement::{Question, Statement};
 use wgsl_core::error::Fail;
@@ -17,7 +15,7 @@ use wgsl_reader::token::Token;
 
 /// A call with its arguments so far.
 #[derive(Drop)]
-pub(crate) struct Call {
+pub struct Call {
     /// The index of its first byte.
     pub at: usize,
     pub head: Head,
@@ -26,7 +24,7 @@ pub(crate) struct Call {
 
 /// A declaration, a statement or another request, with its types and its parts so far.
 #[derive(Drop)]
-pub(crate) struct Asked {
+pub struct Asked {
     pub statement: Statement,
     pub types: Vec<Type>,
     pub parts: Parts,
@@ -34,7 +32,7 @@ pub(crate) struct Asked {
 
 /// What was read and isn't yet part of anything else.
 #[derive(Drop)]
-pub(crate) enum Item {
+pub enum Item {
     Operand(Outcome),
     /// A name, by the number of tokens up to it.
     Name(usize),
@@ -51,8 +49,11 @@ pub(crate) enum Item {
     Overloads(Token),
 }
 
+/// What was read, the last on top.
+pub type Items = Vec<Item>;
+
 /// Puts an item on top.
-pub(crate) fn push(item: Item, items: &mut Vec<Item>) -> Result<(), Fail<Misread>>
+pub fn push(item: Item, items: &mut Items) -> Read<()>
     ensures { Does (λ r. r ≡ Some (item_view item ∷ items_view items.old.items)) items.new.items result }
 {
     items.push(item)?;
@@ -60,11 +61,7 @@ pub(crate) fn push(item: Item, items: &mut Vec<Item>) -> Result<(), Fail<Misread
 }
 
 /// Puts an operand that ends behind that many tokens, if its type isn't too deep.
-pub(crate) fn put(
-    source: Source<'_>,
-    x: Outcome,
-    items: &mut Vec<Item>,
-) -> Result<(), Fail<Misread>>
+pub fn put(source: &Source<'_>, x: Outcome, items: &mut Items) -> Read<()>
     ensures { Does (λ r. r ≡ with_operand (outcome_view x) (items_view items.old.items)) items.new.items result }
 {
     if is_too_deep(&x) {
@@ -75,10 +72,7 @@ pub(crate) fn put(
 }
 
 /// Takes the operand on top.
-pub(crate) fn take_operand(
-    source: Source<'_>,
-    items: &mut Vec<Item>,
-) -> Result<Outcome, Fail<Misread>>
+pub fn take_operand(source: &Source<'_>, items: &mut Items) -> Read<Outcome>
     ensures { Takes outcome_view (operand_on (items_view items.old.items)) items.new.items result }
 {
     match items.pop() {
@@ -88,7 +82,7 @@ pub(crate) fn take_operand(
 }
 
 /// Takes the name on top, by the number of tokens up to it.
-pub(crate) fn take_name(source: Source<'_>, items: &mut Vec<Item>) -> Result<usize, Fail<Misread>>
+pub fn take_name(source: &Source<'_>, items: &mut Items) -> Read<usize>
     ensures { Takes same (name_on (items_view items.old.items)) items.new.items result }
 {
     match items.pop() {
@@ -98,10 +92,7 @@ pub(crate) fn take_name(source: Source<'_>, items: &mut Vec<Item>) -> Result<usi
 }
 
 /// Takes the operator on top, by the number of tokens up to it.
-pub(crate) fn take_operator(
-    source: Source<'_>,
-    items: &mut Vec<Item>,
-) -> Result<usize, Fail<Misread>>
+pub fn take_operator(source: &Source<'_>, items: &mut Items) -> Read<usize>
     ensures { Takes same (operator_on (items_view items.old.items)) items.new.items result }
 {
     match items.pop() {
@@ -111,10 +102,7 @@ pub(crate) fn take_operator(
 }
 
 /// Takes the bracket on top, by the index of its byte.
-pub(crate) fn take_bracket(
-    source: Source<'_>,
-    items: &mut Vec<Item>,
-) -> Result<usize, Fail<Misread>>
+pub fn take_bracket(source: &Source<'_>, items: &mut Items) -> Read<usize>
     ensures { Takes same (bracket_on (items_view items.old.items)) items.new.items result }
 {
     match items.pop() {
@@ -123,21 +111,21 @@ pub(crate) fn take_bracket(
     }
 }
 
-/// Takes the call on top.
-pub(crate) fn take_call(source: Source<'_>, items: &mut Vec<Item>) -> Result<Call, Fail<Misread>>
+/// Takes the call on top. The error is that something else was expected of the last of that many tokens.
+pub fn take_call(source: &Source<'_>, count: usize, wanted: Wanted, items: &mut Items) -> Read<Call>
     ensures { Takes call_view (call_on (items_view items.old.items)) items.new.items result }
 {
     match items.pop() {
         Some(Item::Call(call)) => Ok(call),
-        other => Err(without(source, other)),
+        other => {
+            drop(other);
+            Err(source.misread(count, wanted))
+        }
     }
 }
 
 /// Takes the struct or the function on top.
-pub(crate) fn take_heading(
-    source: Source<'_>,
-    items: &mut Vec<Item>,
-) -> Result<Heading, Fail<Misread>>
+pub fn take_heading(source: &Source<'_>, items: &mut Items) -> Read<Heading>
     ensures { Takes heading_view (heading_on (items_view items.old.items)) items.new.items result }
 {
     match items.pop() {
@@ -147,7 +135,7 @@ pub(crate) fn take_heading(
 }
 
 /// Takes the request on top.
-pub(crate) fn take_asked(source: Source<'_>, items: &mut Vec<Item>) -> Result<Asked, Fail<Misread>>
+pub fn take_asked(source: &Source<'_>, items: &mut Items) -> Read<Asked>
     ensures { Takes asked_view (asked_on (items_view items.old.items)) items.new.items result }
 {
     match items.pop() {
@@ -157,7 +145,7 @@ pub(crate) fn take_asked(source: Source<'_>, items: &mut Vec<Item>) -> Result<As
 }
 
 /// The error that something else is on top.
-fn without(source: Source<'_>, top: Option<Item>) -> Fail<Misread>
+fn without(source: &Source<'_>, top: Option<Item>) -> Fail<Misread>
     ensures { IsMisread result }
 {
     drop(top);

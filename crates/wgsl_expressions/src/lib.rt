@@ -3,11 +3,9 @@
 
 mod ask;
 mod called;
-mod depth;
 pub mod expression;
 mod form;
-mod head;
-pub mod heading;
+mod heading;
 mod item;
 pub mod laws;
 pub mod line;

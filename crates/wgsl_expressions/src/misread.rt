@@ -11,6 +11,8 @@ pub enum Wanted {
     Token,
     /// A type, a literal, a call, `(`, or an operator in front of an operand.
     Operand,
+    /// The operand of a statement.
+    Value,
     Type,
     Name,
     /// An integer without a sign.
@@ -53,7 +55,7 @@ impl Wanted {
     pub fn text(self) -> &'static str {
         match self {
             Wanted::Token => "expected a token",
-            Wanted::Operand => "expected an operand",
+            Wanted::Operand | Wanted::Value => "expected an operand",
             Wanted::Type => "expected a type",
             Wanted::Name => "expected a name",
             Wanted::Number => "expected an integer",
@@ -84,6 +86,16 @@ pub struct Misread {
     pub wanted: Wanted,
 }
 
+/// What was read, unless the text is no request or memory ran out.
+pub type Read<T> = Result<T, Fail<Misread>>;
+
+/// The error that something else was expected at a byte.
+pub(crate) fn expecting(at: usize, wanted: Wanted) -> Fail<Misread>
+    ensures { IsMisread result }
+{
+    Fail::Error(Misread { at, wanted })
+}
+
 /// The error at a name with its list that spells no type: why, or what was expected in place of the name.
 pub(crate) fn untyped(fault: Fault, wanted: Wanted) -> Fail<Misread>
     ensures { IsMisread result }
@@ -93,8 +105,5 @@ pub(crate) fn untyped(fault: Fault, wanted: Wanted) -> Fail<Misread>
         Cause::TooDeep => Wanted::Shallower,
         cause => Wanted::Faultless(cause),
     };
-    Fail::Error(Misread {
-        at: fault.at,
-        wanted,
-    })
+    expecting(fault.at, wanted)
 }

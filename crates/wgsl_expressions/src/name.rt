@@ -1,42 +1,36 @@
 // What is called by a name.
 ghost use Rattle.std.specs.Prelude.{◌≡◌, IfOk, None, Some, map, option_map, string_bytes};
-ghost use Rattle.wgsl_core.specs.Instances.{parameter_view};
-ghost use Rattle.wgsl_core.specs.View.{view};
-ghost use Rattle.wgsl_rules.specs.types.Spelling.{wgsl_spelling};
+ghost use Rattle.wgsl_expressions.specs.Prelude.{parameter_view, view, wgsl_spelling};
 ghost use Rattle.wgsl_expressions.specs.Names.{constructor_of, function_with, head_noted, is_constructor, other_head, plain_head, with_type};
 ghost use Rattle.wgsl_expressions.specs.Outcomes.{declared};
 ghost use Rattle.wgsl_expressions.specs.Views.{head_found, head_view, meaning_view, scope_view, source_view};
 
-use crate::head::Head;
+use crate::outcome::Head;
 use crate::scope::{Meaning, Scope};
 use crate::source::{Source, between, first_count};
-use std::alloc::{AllocError, Global};
+use std::alloc::Global;
 use std::fmt::Write;
 use wgsl_core::signature::TpltParam;
 use wgsl_core::ty::Type;
 use wgsl_core::ty::form::Form;
 use wgsl_core::ty::show::ShownType;
 use wgsl_reader::read::Event;
+use wgsl_requests::reply::Made;
 use wgsl_spelling::fault::Fault;
 use wgsl_standard::callee::{Callee, overloads};
 use wgsl_syntax::rules::RuleSet;
 
 /// What is called by the name and the list that are noted, or why they are no type.
-pub(crate) fn head_noted(
-    alloc: Global,
-    source: Source<'_>,
-    scope: &Scope,
-    events: &[Event],
-) -> Result<Result<Head, Fault>, AllocError>
-    ensures { IfOk result (λ found. head_found found ≡ head_noted (source_view source.entry) (scope_view scope.now) events.now) }
+pub fn head_noted(source: &Source<'_>, scope: &Scope, events: &[Event]) -> Made<Result<Head, Fault>>
+    ensures { IfOk result (λ found. head_found found ≡ head_noted (source_view source.now) (scope_view scope.now) events.now) }
 {
-    match source.type_noted(alloc, scope, events)? {
+    match source.type_noted(scope, events)? {
         Ok((ty, _)) => {
-            let head = constructor_of(alloc, &ty);
+            let head = constructor_of(source.alloc, &ty);
             drop(ty);
             Ok(Ok(head?))
         }
-        Err(fault) => match other_head(alloc, source, scope, events)? {
+        Err(fault) => match other_head(source, scope, events)? {
             Some(head) => Ok(Ok(head)),
             None => Ok(Err(fault)),
         },
@@ -44,7 +38,7 @@ pub(crate) fn head_noted(
 }
 
 /// The constructor of a type.
-fn constructor_of(alloc: Global, ty: &Type) -> Result<Head, AllocError>
+fn constructor_of(alloc: Global, ty: &Type) -> Made<Head>
     ensures { IfOk result (λ head. head_view head ≡ constructor_of (view ty.now)) }
 {
     match ty.form() {
@@ -65,7 +59,7 @@ fn constructor_of(alloc: Global, ty: &Type) -> Result<Head, AllocError>
 }
 
 /// The type as WGSL spells it.
-fn spelling_of(alloc: Global, ty: &Type) -> Result<String, AllocError>
+fn spelling_of(alloc: Global, ty: &Type) -> Made<String>
     ensures { IfOk result (λ text. string_bytes text ≡ wgsl_spelling (view ty.now)) }
 {
     let rules = RuleSet::Standard;
@@ -75,7 +69,7 @@ fn spelling_of(alloc: Global, ty: &Type) -> Result<String, AllocError>
 }
 
 /// The template that is a type.
-fn with_type(alloc: Global, ty: &Type) -> Result<Vec<TpltParam>, AllocError>
+fn with_type(alloc: Global, ty: &Type) -> Made<Vec<TpltParam>>
     ensures { IfOk result (λ ps. Some (map parameter_view ps.items) ≡ with_type (view ty.now)) }
 {
     let mut parameters = Vec::with_capacity(alloc, 1)?;
@@ -84,22 +78,17 @@ fn with_type(alloc: Global, ty: &Type) -> Result<Vec<TpltParam>, AllocError>
 }
 
 /// A constructor or a function that has the name which is noted, and perhaps a type in its list.
-fn other_head(
-    alloc: Global,
-    source: Source<'_>,
-    scope: &Scope,
-    events: &[Event],
-) -> Result<Option<Head>, AllocError>
-    ensures { IfOk result (λ found. option_map head_view found ≡ other_head (source_view source.entry) (scope_view scope.now) events.now) }
+fn other_head(source: &Source<'_>, scope: &Scope, events: &[Event]) -> Made<Option<Head>>
+    ensures { IfOk result (λ found. option_map head_view found ≡ other_head (source_view source.now) (scope_view scope.now) events.now) }
 {
     let name = source.text_at(first_count(events));
     if events.len() == 1 {
-        return Ok(Some(plain_head(alloc, name, scope.find(name))?));
+        return Ok(Some(plain_head(source.alloc, name, scope.find(name))?));
     }
     let list = between(events, 2, events.len().saturating_sub(1));
-    match source.type_noted(alloc, scope, list)? {
+    match source.type_noted(scope, list)? {
         Ok((ty, _)) => {
-            let head = function_with(alloc, name, &ty);
+            let head = function_with(source.alloc, name, &ty);
             drop(ty);
             Ok(Some(head?))
         }
@@ -108,7 +97,7 @@ fn other_head(
 }
 
 /// What is called by a name without a list, which may be declared.
-fn plain_head(alloc: Global, name: &str, declared: Option<&Meaning>) -> Result<Head, AllocError>
+fn plain_head(alloc: Global, name: &str, declared: Option<&Meaning>) -> Made<Head>
     ensures { IfOk result (λ head. head_view head ≡ plain_head name.now (option_map (λ m. meaning_view m.now) declared.entry)) }
 {
     let owned = String::from_str(alloc, name)?;
@@ -126,7 +115,7 @@ fn declared_head(
     name: String,
     parameters: &[Type],
     of_result: Option<&Type>,
-) -> Result<Head, AllocError>
+) -> Made<Head>
     ensures { IfOk result (λ head. head_view head ≡ declared (string_bytes name) (map view parameters.now) (option_map (λ t. view t.now) of_result.entry)) }
 {
     let mut types = Vec::with_capacity(alloc, parameters.len())?;
@@ -140,7 +129,7 @@ fn declared_head(
     Ok(Head::Declared(name, types, copied))
 }
 
-fn function_with(alloc: Global, name: &str, ty: &Type) -> Result<Head, AllocError>
+fn function_with(alloc: Global, name: &str, ty: &Type) -> Made<Head>
     ensures { IfOk result (λ head. head_view head ≡ function_with name.now (view ty.now)) }
 {
     let parameters = with_type(alloc, ty)?;

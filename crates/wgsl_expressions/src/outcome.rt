@@ -1,15 +1,17 @@
 // What the parts of an expression are.
-ghost use Rattle.std.specs.Prelude.{◌≡◌, IfOk, map};
-ghost use Rattle.wgsl_core.specs.View.{view};
-ghost use Rattle.wgsl_forms.specs.Expressions.{shown_type};
-ghost use Rattle.wgsl_forms.specs.Memory.{behind};
-ghost use Rattle.wgsl_expressions.specs.Outcomes.{with_part};
+ghost use Rattle.std.specs.Prelude.{◌≡◌, IfOk, map, option_map};
+ghost use Rattle.wgsl_expressions.specs.Prelude.{view, shown_type, behind};
+ghost use Rattle.wgsl_expressions.specs.Outcomes.{has_layer, is_deeper, is_outcome_too_deep, most_layers, with_part};
+ghost use Rattle.wgsl_expressions.specs.Steps.{given};
 ghost use Rattle.wgsl_expressions.specs.Views.{outcome_view, refused_view, shown, typed_view};
 
-use std::alloc::{AllocError, Global};
+use std::alloc::Global;
+use wgsl_core::signature::TpltParam;
 use wgsl_core::ty::Type;
 use wgsl_core::ty::form::Form;
 use wgsl_forms::form::Referent;
+use wgsl_requests::reply::Made;
+use wgsl_syntax::operator::{BinaryOperator, UnaryOperator};
 
 /// An expression, by its type.
 #[derive(Drop)]
@@ -34,6 +36,31 @@ pub type Outcome = Result<Typed, Refused>;
 /// The parts of an expression, or the first of them that has no type.
 pub(crate) type Parts = Result<Vec<Typed>, Refused>;
 
+/// What stands in front of operands: an operator, a name with a template, a type, or a function that the text declares.
+#[derive(Drop)]
+pub(crate) enum Head {
+    Unary(UnaryOperator),
+    Binary(BinaryOperator),
+    Constructor(String, Option<Vec<TpltParam>>),
+    Function(String, Option<Vec<TpltParam>>),
+    /// The type of the elements, and their number, or None if it is not said.
+    Array(Type, Option<usize>),
+    Struct(Type),
+    /// The name, the types of the parameters, and that of the result.
+    Declared(String, Vec<Type>, Option<Type>),
+}
+
+/// An expression that is given by its type.
+pub(crate) fn given(ty: Type, is_constant: bool) -> Typed
+    ensures { typed_view result ≡ given is_constant (view ty) }
+{
+    Typed {
+        ty,
+        is_constant,
+        referent: Referent::Whole,
+    }
+}
+
 /// The type that is shown: of a swizzle that of its value.
 pub fn shown_type(x: &Typed) -> &Type
     ensures { view result.now ≡ shown_type (typed_view x.now) }
@@ -56,7 +83,7 @@ pub(crate) fn behind(ty: &Type) -> &Type
 
 /// One more part.
 #[inline(always)]
-pub(crate) fn with_part(parts: Parts, part: Outcome) -> Result<Parts, AllocError>
+pub(crate) fn with_part(parts: Parts, part: Outcome) -> Made<Parts>
     ensures { IfOk result (λ all. shown (λ v. map typed_view v.items) refused_view all
         ≡ with_part (shown (λ v. map typed_view v.items) refused_view parts) (outcome_view part)) }
 {
@@ -76,5 +103,50 @@ pub(crate) fn with_part(parts: Parts, part: Outcome) -> Result<Parts, AllocError
             drop(typed);
             Ok(Err(refused))
         }
+    }
+}
+
+/// How many types may be inside a struct, and how many layers a type may have, one around another. Types are copied and dropped
+/// by recursion.
+pub(crate) const MOST_INSIDE: usize = 255;
+
+/// Whether the type of an outcome has more layers than a type may have.
+pub(crate) fn is_too_deep(x: &Outcome) -> bool
+    ensures { result ≡ is_outcome_too_deep (outcome_view x.now) }
+{
+    match x {
+        Ok(typed) => is_deep(&typed.ty),
+        Err(_) => false,
+    }
+}
+
+fn is_deep(ty: &Type) -> bool
+    ensures { result ≡ is_deeper most_layers (view ty.now) }
+{
+    let mut inside = ty;
+    let mut left = MOST_INSIDE;
+    while has_layer(inside) {
+        if left == 0 {
+            return true;
+        }
+        left -= 1;
+        inside = inside.inner();
+    }
+    false
+}
+
+/// Whether there is a type inside of a type.
+fn has_layer(ty: &Type) -> bool
+    ensures { result ≡ has_layer (view ty.now) }
+{
+    match ty.form() {
+        Form::Array(_, _)
+        | Form::Vector(_, _)
+        | Form::Matrix(_, _, _)
+        | Form::Atomic(_)
+        | Form::Pointer(_, _, _)
+        | Form::Reference(_, _, _)
+        | Form::BindingArray(_, _) => true,
+        _ => false,
     }
 }

@@ -1,12 +1,7 @@
 // What is replied to a request.
 ghost use Rattle.std.specs.Prelude.{◌≡◌, ◌++◌, [], IfOk, Some, map, option_map, string_bytes};
-ghost use Rattle.wgsl_core.specs.View.{struct_view, view};
-ghost use Rattle.wgsl_requests.specs.Requests.{common};
-ghost use Rattle.wgsl_rules.specs.types.Spelling.{wgsl_spelling};
-ghost use Rattle.wgsl_requests.specs.StandardViews.{written_view};
-ghost use Rattle.wgsl_requests.specs.Texts.{text_kind};
-ghost use Rattle.wgsl_requests.specs.Views.{answer_view, request_view};
-ghost use Rattle.wgsl_requests.specs.Replies.{IsReplyOf, IsUnreadable, WritesReply};
+ghost use Rattle.wgsl_expressions.specs.Prelude.{struct_view, view, common, answer_view, request_view, written_view, text_kind};
+ghost use Rattle.wgsl_requests.specs.Replies.{IsReplyOf, IsUnreadable, Replies};
 ghost use Rattle.wgsl_expressions.specs.Outcomes.{asked, asked_with, operand};
 ghost use Rattle.wgsl_expressions.specs.Replies.{AnswersItem, AnswersQuestion, outcome_kind, outcome_text};
 ghost use Rattle.wgsl_expressions.specs.Statements.{only_struct, other_request, rank_of, reason_or_none, request_of, request_on, signature_or_text, size_of, struct_of, told};
@@ -16,22 +11,21 @@ ghost use Rattle.wgsl_expressions.specs.Views.{asked_view, call_view, head_view,
 use crate::ask::{operand_of, operands_by, referent_of};
 use crate::called::asked_about;
 use crate::form::form_of;
-use crate::head::Head;
 use crate::item::{Asked, Call, Item};
 use crate::misread::Wanted;
-use crate::outcome::{Outcome, Typed, shown_type};
+use crate::outcome::{Head, Outcome, Typed, shown_type};
 use crate::statement::{Question, Statement};
-use crate::why::Why;
-use std::alloc::{AllocError, Global};
+use crate::why::{Replied, Why};
+use std::alloc::Global;
 use wgsl_core::ty::form::Form;
-use wgsl_core::ty::show::ShownType;
 use wgsl_core::ty::{StructType, Type};
 use wgsl_forms::form::Referent;
 use wgsl_forms::lists::Taker;
 use wgsl_requests::answers::Answer;
 use wgsl_requests::ask::answer;
 use wgsl_requests::common::write_common as write_common_of;
-use wgsl_requests::reply::{ReplyKind, TextKind};
+use wgsl_requests::fast::ty::write_type;
+use wgsl_requests::reply::{Made, ReplyKind, TextKind};
 use wgsl_requests::requests::Request;
 use wgsl_requests::write::overloads::write_signature;
 use wgsl_requests::write::{write, write_answer_to};
@@ -41,14 +35,8 @@ use wgsl_syntax::rules::RuleSet;
 use wgsl_types::typed::typed_lines;
 
 /// Writes what is replied to what a line is, and returns of which kind that is.
-pub(crate) fn write_item(
-    alloc: Global,
-    line: &str,
-    item: Item,
-    text: &mut String,
-) -> Result<ReplyKind<Why>, AllocError>
-    ensures { IfOk result (λ kind. WritesReply (AnswersItem line.now (item_view item)) kind
-        (string_bytes text.old) (string_bytes text.new)) }
+pub fn write_item(alloc: Global, line: &str, item: Item, text: &mut String) -> Replied
+    ensures { Replies (AnswersItem line.now (item_view item)) text.old text.new result }
 {
     match item {
         Item::Operand(outcome) => Ok(ReplyKind::Answer(write_outcome(outcome, text)?)),
@@ -57,7 +45,7 @@ pub(crate) fn write_item(
         Item::Overloads(token) => write_request(alloc, Request::Overloads(word(line, token)), text),
         other => {
             drop(other);
-            Ok(unreadable(Wanted::Operand))
+            Ok(unreadable(Wanted::Value))
         }
     }
 }
@@ -69,37 +57,26 @@ fn unreadable(wanted: Wanted) -> ReplyKind<Why>
 }
 
 /// Writes the answer to a request, or the first of its values that has no type.
-fn write_asked(alloc: Global, asked: Asked, text: &mut String) -> Result<ReplyKind<Why>, AllocError>
-    ensures { IfOk result (λ kind. WritesReply (AnswersItem [] (an_asked (asked_view asked))) kind
-        (string_bytes text.old) (string_bytes text.new)) }
+fn write_asked(alloc: Global, asked: Asked, text: &mut String) -> Replied
+    ensures { Replies (AnswersItem [] (an_asked (asked_view asked))) text.old text.new result }
 {
-    let Asked {
-        statement,
-        types,
-        parts,
-    } = asked;
+    let parts = asked.parts;
     match parts {
         Ok(values) => {
-            let written = write_statement(alloc, statement, types, &values, text);
+            let written = write_statement(alloc, asked.statement, asked.types, &values, text);
             drop(values);
             written
         }
         Err(refused) => {
-            drop(types);
+            drop(asked.types);
             Ok(ReplyKind::Answer(write_outcome(Err(refused), text)?))
         }
     }
 }
 
 /// Writes the answer to what is asked about a call, or the first of its operands that has no type.
-fn write_question(
-    alloc: Global,
-    question: Question,
-    call: Call,
-    text: &mut String,
-) -> Result<ReplyKind<Why>, AllocError>
-    ensures { IfOk result (λ kind. WritesReply (AnswersItem [] (a_question question (call_view call))) kind
-        (string_bytes text.old) (string_bytes text.new)) }
+fn write_question(alloc: Global, question: Question, call: Call, text: &mut String) -> Replied
+    ensures { Replies (AnswersItem [] (a_question question (call_view call))) text.old text.new result }
 {
     let Call { head, parts, .. } = call;
     match parts {
@@ -122,10 +99,9 @@ fn write_of_call(
     head: &Head,
     values: &[Typed],
     text: &mut String,
-) -> Result<ReplyKind<Why>, AllocError>
-    ensures { IfOk result (λ kind. WritesReply
-        (AnswersQuestion question (head_view head.now) (asked (head_view head.now) (map typed_view values.now)))
-        kind (string_bytes text.old) (string_bytes text.new)) }
+) -> Replied
+    ensures { Replies (AnswersQuestion question (head_view head.now) (asked (head_view head.now)
+        (map typed_view values.now))) text.old text.new result }
 {
     let operands = operands_by(alloc, head, values)?;
     let written = write_question_on(alloc, question, head, referent_of(values), &operands, text);
@@ -141,25 +117,19 @@ fn write_question_on<'x>(
     referent: Referent,
     operands: &'x [Operand<'x>],
     text: &mut String,
-) -> Result<ReplyKind<Why>, AllocError>
-    ensures { IfOk result (λ kind. WritesReply (AnswersQuestion question (head_view head.now)
-        (asked_with (head_view head.now) referent (map written_view operands.now)))
-        kind (string_bytes text.old) (string_bytes text.new)) }
+) -> Replied
+    ensures { Replies (AnswersQuestion question (head_view head.now) (asked_with
+        (head_view head.now) referent (map written_view operands.now))) text.old text.new result }
 {
     let asked = asked_about(head, referent, operands);
     let answer = answer(alloc, asked.question(question))?;
-    let written = write_told(question, head, &answer, text);
+    let written = tell(question, head, &answer, text);
     drop(answer);
     Ok(ReplyKind::Answer(written?))
 }
 
 /// Writes what is told of the answer to a question about a call.
-fn write_told(
-    question: Question,
-    head: &Head,
-    answer: &Answer<'_>,
-    text: &mut String,
-) -> Result<TextKind, AllocError>
+fn tell(question: Question, head: &Head, answer: &Answer<'_>, text: &mut String) -> Made<TextKind>
     ensures { IfOk result (λ kind. (kind ≡ text_kind (answer_view answer.now)) × (string_bytes text.new
         ≡ string_bytes text.old ++ told question (head_view head.now) (answer_view answer.now))) }
 {
@@ -171,11 +141,7 @@ fn write_told(
 }
 
 /// Writes the answer, or the signature of a declared function that takes the values.
-fn write_signature_or_text(
-    head: &Head,
-    answer: &Answer<'_>,
-    text: &mut String,
-) -> Result<TextKind, AllocError>
+fn write_signature_or_text(head: &Head, answer: &Answer<'_>, text: &mut String) -> Made<TextKind>
     ensures { IfOk result (λ kind. (kind ≡ text_kind (answer_view answer.now)) × (string_bytes text.new
         ≡ string_bytes text.old ++ signature_or_text (head_view head.now) (answer_view answer.now))) }
 {
@@ -192,7 +158,7 @@ fn write_signature_or_text(
 }
 
 /// Writes the answer, or `none` if nothing is refused.
-fn write_reason_or_none(answer: &Answer<'_>, text: &mut String) -> Result<TextKind, AllocError>
+fn write_reason_or_none(answer: &Answer<'_>, text: &mut String) -> Made<TextKind>
     ensures { IfOk result (λ kind. (kind ≡ text_kind (answer_view answer.now))
         × (string_bytes text.new ≡ string_bytes text.old ++ reason_or_none (answer_view answer.now))) }
 {
@@ -212,10 +178,8 @@ fn write_statement(
     types: Vec<Type>,
     values: &[Typed],
     text: &mut String,
-) -> Result<ReplyKind<Why>, AllocError>
-    ensures { IfOk result (λ kind. WritesReply
-        (IsReplyOf (request_of statement (map view types.items) (map operand (map typed_view values.now))))
-        kind (string_bytes text.old) (string_bytes text.new)) }
+) -> Replied
+    ensures { Replies (IsReplyOf (request_of statement (map view types.items) (map operand (map typed_view values.now)))) text.old text.new result }
 {
     match statement {
         Statement::Common => write_common(alloc, types, text),
@@ -228,13 +192,8 @@ fn write_statement(
 }
 
 /// Writes the common type of types, or `none`.
-fn write_common(
-    alloc: Global,
-    types: Vec<Type>,
-    text: &mut String,
-) -> Result<ReplyKind<Why>, AllocError>
-    ensures { IfOk result (λ kind. WritesReply (IsReplyOf (Some (common RuleSet.Standard (map view types.items))))
-        kind (string_bytes text.old) (string_bytes text.new)) }
+fn write_common(alloc: Global, types: Vec<Type>, text: &mut String) -> Replied
+    ensures { Replies (IsReplyOf (Some (common RuleSet.Standard (map view types.items)))) text.old text.new result }
 {
     let values = typed_lines(alloc, types)?;
     let written = write_common_of(alloc, RuleSet::Standard, &values, text);
@@ -249,10 +208,8 @@ fn write_other(
     types: &[Type],
     values: &[Typed],
     text: &mut String,
-) -> Result<ReplyKind<Why>, AllocError>
-    ensures { IfOk result (λ kind. WritesReply
-        (IsReplyOf (other_request statement (map view types.now) (map operand (map typed_view values.now))))
-        kind (string_bytes text.old) (string_bytes text.new)) }
+) -> Replied
+    ensures { Replies (IsReplyOf (other_request statement (map view types.now) (map operand (map typed_view values.now)))) text.old text.new result }
 {
     let operands = operands_of(alloc, values)?;
     let written = write_answer(alloc, statement, types, &operands, text);
@@ -260,7 +217,7 @@ fn write_other(
     written
 }
 
-fn operands_of<'p>(alloc: Global, values: &'p [Typed]) -> Result<Vec<Operand<'p>>, AllocError>
+fn operands_of<'p>(alloc: Global, values: &'p [Typed]) -> Made<Vec<Operand<'p>>>
     ensures { IfOk result (λ v. map written_view v.items ≡ map operand (map typed_view values.now)) }
 {
     let mut operands = Vec::with_capacity(alloc, values.len())?;
@@ -276,10 +233,8 @@ fn write_answer<'p>(
     types: &'p [Type],
     operands: &'p [Operand<'p>],
     text: &mut String,
-) -> Result<ReplyKind<Why>, AllocError>
-    ensures { IfOk result (λ kind. WritesReply
-        (IsReplyOf (other_request statement (map view types.now) (map written_view operands.now)))
-        kind (string_bytes text.old) (string_bytes text.new)) }
+) -> Replied
+    ensures { Replies (IsReplyOf (other_request statement (map view types.now) (map written_view operands.now))) text.old text.new result }
 {
     match statement {
         Statement::Condition => {
@@ -296,7 +251,7 @@ fn write_answer<'p>(
         }
         _ => match form_of(statement, types.first(), operands) {
             Some(form) => write_request(alloc, Request::Form(&form), text),
-            None => Ok(unreadable(Wanted::Operand)),
+            None => Ok(unreadable(Wanted::Value)),
         },
     }
 }
@@ -351,33 +306,20 @@ fn struct_of(ty: &Type) -> Option<&StructType>
 }
 
 /// Writes the answer to a request.
-fn write_request(
-    alloc: Global,
-    request: Request<'_>,
-    text: &mut String,
-) -> Result<ReplyKind<Why>, AllocError>
-    ensures { IfOk result (λ kind. WritesReply (IsReplyOf (Some (request_view request.entry)))
-        kind (string_bytes text.old) (string_bytes text.new)) }
+fn write_request(alloc: Global, request: Request<'_>, text: &mut String) -> Replied
+    ensures { Replies (IsReplyOf (Some (request_view request.entry))) text.old text.new result }
 {
     Ok(ReplyKind::Answer(write_answer_to(alloc, request, text)?))
 }
 
-/// Writes a type as WGSL spells it.
-fn write_type(ty: &Type, text: &mut String) -> Result<(), AllocError>
-    ensures { IfOk result (λ done. string_bytes text.new ≡ string_bytes text.old ++ wgsl_spelling (view ty.now)) }
-{
-    let rules = RuleSet::Standard;
-    write!(text, "{}", ShownType { ty, rules })
-}
-
 /// Writes the outcome of an expression, and returns of which kind the text is.
-fn write_outcome(outcome: Outcome, text: &mut String) -> Result<TextKind, AllocError>
+fn write_outcome(outcome: Outcome, text: &mut String) -> Made<TextKind>
     ensures { IfOk result (λ kind. (kind ≡ outcome_kind (outcome_view outcome))
         × (string_bytes text.new ≡ string_bytes text.old ++ outcome_text (outcome_view outcome))) }
 {
     match outcome {
         Ok(typed) => {
-            let written = write_type(shown_type(&typed), text);
+            let written = write_type(text, RuleSet::Standard, shown_type(&typed));
             drop(typed);
             written?;
             Ok(TextKind::Answer)

@@ -1,7 +1,6 @@
 // The tokens of a request, whose first word and `const` have kinds of their own.
 ghost use Rattle.std.specs.Prelude.{◌≡◌, ◌+◌, ◌<◌, drop, length};
-ghost use Rattle.wgsl_spelling.specs.Words.{word};
-ghost use Rattle.wgsl_syntax.specs.Names.{named};
+ghost use Rattle.wgsl_expressions.specs.Prelude.{word, named};
 ghost use Rattle.wgsl_expressions.specs.RequestTokens.{as_operand, asked_behind, asked_kind, is_colon, is_overloads, kind_or, may_begin_behind, next_kind, question_of, questions};
 
 use wgsl_reader::kind::Kind;
@@ -10,7 +9,7 @@ use wgsl_spelling::word::word;
 
 /// Gives each token the kind that it has in a request: the first word of what is asked one of its own, `const` that of one in front of
 /// an operand's type, and what stands behind `overloads` that of a name.
-pub(crate) fn as_asked(text: &str, tokens: &mut [Token])
+pub fn as_asked(text: &str, tokens: &mut [Token])
     ensures { tokens.new ≡ asked_behind text.now Kind.End tokens.old }
 {
     let mut before = Kind::End;
@@ -79,7 +78,7 @@ fn may_begin_behind(kind: Kind) -> bool
 }
 
 /// The kind of a `const` in a request; of any other token its own.
-pub(crate) fn as_operand(kind: Kind) -> Kind
+pub fn as_operand(kind: Kind) -> Kind
     ensures { result ≡ as_operand kind }
 {
     match kind {

@@ -4,8 +4,9 @@ ghost use Rattle.wgsl_core.specs.View.{view};
 ghost use Rattle.wgsl_expressions.specs.Scopes.{find, last_result, type_named};
 ghost use Rattle.wgsl_expressions.specs.Views.{declared_view, meaning_view, scope_view};
 
-use std::alloc::{AllocError, Global};
+use std::alloc::Global;
 use wgsl_core::ty::Type;
+use wgsl_requests::reply::Made;
 
 /// What a name is declared as.
 #[derive(Drop)]
@@ -40,7 +41,7 @@ impl Scope {
     }
 
     /// Declares one more name.
-    pub fn declare(&mut self, name: String, meaning: Meaning) -> Result<(), AllocError>
+    pub fn declare(&mut self, name: String, meaning: Meaning) -> Made<()>
         ensures { IfOk result (λ done. scope_view self.new ≡ declared_view (record { name = name; meaning = meaning }) ∷ scope_view self.old) }
     {
         self.declared.push(Declared { name, meaning })?;

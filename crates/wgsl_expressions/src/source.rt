@@ -6,23 +6,28 @@ ghost use Rattle.wgsl_expressions.specs.Reading.{IsMisread};
 ghost use Rattle.wgsl_expressions.specs.Source.{byte_at, declared_in, first_count, kind_at, noted, number_noted, text_at, type_in, type_noted};
 ghost use Rattle.wgsl_expressions.specs.Views.{number_found, scope_view, source_view, type_found};
 
-use crate::depth::MOST_INSIDE;
-use crate::misread::{Misread, Wanted};
+use crate::misread::{Misread, Wanted, expecting};
+use crate::outcome::MOST_INSIDE;
 use crate::scope::Scope;
-use std::alloc::{AllocError, Global};
+use std::alloc::Global;
 use wgsl_core::error::Fail;
 use wgsl_core::ty::Type;
 use wgsl_reader::kind::Kind;
 use wgsl_reader::read::Event;
 use wgsl_reader::token::Token;
+use wgsl_requests::reply::Made;
 use wgsl_spelling::chain::Chain;
 use wgsl_spelling::fault::{Cause, Fault, Stop};
 use wgsl_spelling::spelled::{chain_of_events, count_of_events};
 use wgsl_spelling::word::word;
 
+/// A type with the number of types inside it, or why there is none.
+pub type Noted = Result<(Type, usize), Fault>;
+
 /// A text, its tokens with their template lists, and what is noted of them.
 #[derive(Clone, Copy)]
-pub(crate) struct Source<'t> {
+pub struct Source<'t> {
+    pub alloc: Global,
     pub text: &'t str,
     pub tokens: &'t [Token],
     pub events: &'t [Event],
@@ -30,15 +35,15 @@ pub(crate) struct Source<'t> {
 
 impl<'t> Source<'t> {
     /// The last of that many tokens.
-    pub(crate) fn last(self, count: usize) -> Option<Token>
-        ensures { result ≡ slice_get self.entry.tokens.now (count - 1) }
+    pub fn last(&self, count: usize) -> Option<Token>
+        ensures { result ≡ slice_get self.now.tokens.now (count - 1) }
     {
         self.tokens.get(count.saturating_sub(1)).copied()
     }
 
     /// The kind of the last of that many tokens.
-    pub(crate) fn kind_at(self, count: usize) -> Kind
-        ensures { result ≡ kind_at (source_view self.entry) count }
+    pub fn kind_at(&self, count: usize) -> Kind
+        ensures { result ≡ kind_at (source_view self.now) count }
     {
         match self.last(count) {
             Some(token) => token.kind,
@@ -47,8 +52,8 @@ impl<'t> Source<'t> {
     }
 
     /// The index of the first byte of the last of that many tokens.
-    pub(crate) fn byte_at(self, count: usize) -> usize
-        ensures { result ≡ byte_at (source_view self.entry) count }
+    pub fn byte_at(&self, count: usize) -> usize
+        ensures { result ≡ byte_at (source_view self.now) count }
     {
         match self.last(count) {
             Some(token) => token.at,
@@ -57,8 +62,8 @@ impl<'t> Source<'t> {
     }
 
     /// The text of the last of that many tokens.
-    pub(crate) fn text_at(self, count: usize) -> &'t str
-        ensures { result.now ≡ text_at (source_view self.entry) count }
+    pub fn text_at(&self, count: usize) -> &'t str
+        ensures { result.now ≡ text_at (source_view self.now) count }
     {
         match self.last(count) {
             Some(token) => word(self.text, token),
@@ -67,25 +72,20 @@ impl<'t> Source<'t> {
     }
 
     /// What is noted from one index on, up to another.
-    pub(crate) fn noted(self, from: usize, to: usize) -> &'t [Event]
-        ensures { result.now ≡ noted (source_view self.entry) from to }
+    pub fn noted(&self, from: usize, to: usize) -> &'t [Event]
+        ensures { result.now ≡ noted (source_view self.now) from to }
     {
         between(self.events, from, to)
     }
 
     /// The type that is noted with the number of types inside it, or why none is.
     #[inline(always)]
-    pub(crate) fn type_noted(
-        self,
-        alloc: Global,
-        scope: &Scope,
-        events: &[Event],
-    ) -> Result<Result<(Type, usize), Fault>, AllocError>
-        ensures { IfOk result (λ found. type_found found ≡ type_noted (source_view self.entry) (scope_view scope.now) events.now) }
+    pub fn type_noted(&self, scope: &Scope, events: &[Event]) -> Made<Noted>
+        ensures { IfOk result (λ found. type_found found ≡ type_noted (source_view self.now) (scope_view scope.now) events.now) }
     {
-        match chain_of_events(alloc, self.text, self.tokens, events) {
+        match chain_of_events(self.alloc, self.text, self.tokens, events) {
             Ok(chain) => {
-                let found = type_in(alloc, self.text, scope, &chain);
+                let found = type_in(self.alloc, self.text, scope, &chain);
                 drop(chain);
                 found
             }
@@ -95,83 +95,61 @@ impl<'t> Source<'t> {
     }
 
     /// The number that is noted, or why none is.
-    pub(crate) fn number_noted(
-        self,
-        alloc: Global,
-        events: &[Event],
-    ) -> Result<Result<u32, Fault>, AllocError>
-        ensures { IfOk result (λ found. number_found found ≡ number_noted (source_view self.entry) events.now) }
+    pub fn number_noted(&self, events: &[Event]) -> Made<Result<u32, Fault>>
+        ensures { IfOk result (λ found. number_found found ≡ number_noted (source_view self.now) events.now) }
     {
-        match count_of_events(alloc, self.text, self.tokens, events) {
-            Ok(count) => Ok(u32::try_from(count).map_err(|_| Fault {
-                at: self.byte_at(first_count(events)),
-                cause: Cause::Overflow,
-            })),
+        match count_of_events(self.alloc, self.text, self.tokens, events) {
+            Ok(count) => Ok(u32::try_from(count).map_err(|_| fault(
+                self.byte_at(first_count(events)),
+                Cause::Overflow,
+            ))),
             Err(Stop::Fault(fault)) => Ok(Err(fault)),
             Err(Stop::Memory(error)) => Err(error),
         }
     }
 
     /// The error that something else was expected of the last of that many tokens.
-    pub(crate) fn misread(self, count: usize, wanted: Wanted) -> Fail<Misread>
+    pub fn misread(&self, count: usize, wanted: Wanted) -> Fail<Misread>
         ensures { IsMisread result }
     {
-        Fail::Error(Misread {
-            at: self.byte_at(count),
-            wanted,
-        })
+        expecting(self.byte_at(count), wanted)
     }
 }
 
 /// The type in parts, whose leaf may be a name of the scope.
-fn type_in(
-    alloc: Global,
-    text: &str,
-    scope: &Scope,
-    chain: &Chain,
-) -> Result<Result<(Type, usize), Fault>, AllocError>
+fn type_in(alloc: Global, text: &str, scope: &Scope, chain: &Chain) -> Made<Noted>
     ensures { IfOk result (λ found. type_found found ≡ type_in text.now (scope_view scope.now) (chain_of chain.now)) }
 {
     match chain.name() {
         Some(token) => named_in(alloc, scope.type_named(word(text, token)), token.at, chain),
         None => match chain.ty(alloc)? {
             Some(ty) => Ok(Ok((ty, chain.depth()))),
-            None => Ok(Err(Fault {
-                at: 0,
-                cause: Cause::UnknownType,
-            })),
+            None => Ok(Err(fault(0, Cause::UnknownType))),
         },
     }
 }
 
 /// A declared type in the layers of a chain, or the fault at its name.
-fn named_in(
-    alloc: Global,
-    declared: Option<(&Type, usize)>,
-    at: usize,
-    chain: &Chain,
-) -> Result<Result<(Type, usize), Fault>, AllocError>
-    ensures { IfOk result (λ found. type_found found ≡ declared_in (option_map (λ t. (view t.0.now, t.1)) declared.entry) (chain_of chain.now)) }
+fn named_in(alloc: Global, found: Option<(&Type, usize)>, at: usize, chain: &Chain) -> Made<Noted>
+    ensures { IfOk result (λ r. type_found r ≡ declared_in (option_map (λ t. (view t.0.now, t.1)) found.entry) (chain_of chain.now)) }
 {
     let layers = chain.depth();
-    match declared {
+    match found {
         Some((ty, inside)) if inside <= MOST_INSIDE.saturating_sub(layers) => {
             let ty = chain.wrap(alloc, ty.clone(alloc)?)?;
             Ok(Ok((ty, layers + inside)))
         }
-        Some(_) => Ok(Err(Fault {
-            at,
-            cause: Cause::TooDeep,
-        })),
-        None => Ok(Err(Fault {
-            at,
-            cause: Cause::UnknownType,
-        })),
+        Some(_) => Ok(Err(fault(at, Cause::TooDeep))),
+        None => Ok(Err(fault(at, Cause::UnknownType))),
     }
 }
 
+fn fault(at: usize, cause: Cause) -> Fault {
+    Fault { at, cause }
+}
+
 /// Events from one index on, up to another.
-pub(crate) fn between(events: &[Event], from: usize, to: usize) -> &[Event]
+pub fn between(events: &[Event], from: usize, to: usize) -> &[Event]
     ensures { result.now ≡ slice_range events.now from to }
 {
     let to = if to < events.len() { to } else { events.len() };
@@ -179,7 +157,7 @@ pub(crate) fn between(events: &[Event], from: usize, to: usize) -> &[Event]
 }
 
 /// The number of tokens up to the name that is noted first.
-pub(crate) fn first_count(events: &[Event]) -> usize
+pub fn first_count(events: &[Event]) -> usize
     ensures { result ≡ first_count events.now }
 {
     match events {

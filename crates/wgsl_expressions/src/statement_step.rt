@@ -1,50 +1,46 @@
 // What is done with declarations and statements, by what is noted.
 ghost use Rattle.std.specs.Prelude.{◌≡◌, ◌∷◌, IfOk, Some, map, option_map};
 ghost use Rattle.wgsl_core.specs.View.{view};
-ghost use Rattle.wgsl_expressions.specs.Stack.{an_asked, call_on};
+ghost use Rattle.wgsl_expressions.specs.Stack.{an_asked};
 ghost use Rattle.wgsl_expressions.specs.Statements.{listed, stated, types_of, with_access, with_space};
 ghost use Rattle.wgsl_expressions.specs.Steps.{Annotated, Asks, Assigned, Assigns, AssignsBy, Begun, Changes, Increments, InSpace, OfType, Overloads, Value, WithAccess, WithStruct};
-ghost use Rattle.wgsl_expressions.specs.Views.{Does, Takes, call_view, items_view, outcome_view, refused_view, scope_view, shown, source_view, typed_view};
+ghost use Rattle.wgsl_expressions.specs.Views.{Does, items_view, outcome_view, refused_view, scope_view, shown, source_view, typed_view};
 
 use crate::heading::take_struct;
-use crate::item::{Asked, Call, Item, push, take_asked, take_name, take_operand, take_operator};
-use crate::misread::{Misread, Wanted, untyped};
+use crate::item::{
+    Asked, Call, Item, Items, push, take_asked, take_call, take_name, take_operand, take_operator,
+};
+use crate::misread::{Read, Wanted, untyped};
 use crate::outcome::{Outcome, Parts, with_part};
 use crate::scope::Scope;
 use crate::source::Source;
 use crate::statement::{Question, Statement, assignment_of, statement_of, with_access, with_space};
-use std::alloc::{AllocError, Global};
-use wgsl_core::error::Fail;
+use std::alloc::Global;
 use wgsl_core::ty::Type;
 use wgsl_reader::kind::Kind;
+use wgsl_requests::reply::Made;
 use wgsl_spelling::fault::{Cause, Expected};
 use wgsl_syntax::address::{AccessMode, AddressSpace, access_named};
 use wgsl_syntax::operator::AssignmentOperator;
 use wgsl_syntax::rules::RuleSet;
 
 /// `let`, `if`, `size`
-pub(crate) fn begin(
-    alloc: Global,
-    source: Source<'_>,
-    scope: &Scope,
-    count: usize,
-    items: &mut Vec<Item>,
-) -> Result<(), Fail<Misread>>
-    ensures { Does (Begun (source_view source.entry) (scope_view scope.now) count (items_view items.old.items)) items.new.items result }
+pub fn begin(source: &Source<'_>, scope: &Scope, count: usize, items: &mut Items) -> Read<()>
+    ensures { Does (Begun (source_view source.now) (scope_view scope.now) count (items_view items.old.items)) items.new.items result }
 {
     let kind = source.kind_at(count);
     let Some(statement) = statement_of(kind) else {
         return Err(source.misread(count, Wanted::Operand));
     };
-    match types_of(alloc, scope, kind)? {
-        Some(types) => put_statement(statement, types, Ok(Vec::new(alloc)), items),
+    match types_of(source.alloc, scope, kind)? {
+        Some(types) => put_request(statement, types, Ok(Vec::new(source.alloc)), items),
         None => Err(source.misread(count, Wanted::Function)),
     }
 }
 
 /// The types that the values of a statement have to fit: a condition's is `bool`, that behind `return` the result of the function.
 /// None if there is no function in front.
-fn types_of(alloc: Global, scope: &Scope, kind: Kind) -> Result<Option<Vec<Type>>, AllocError>
+fn types_of(alloc: Global, scope: &Scope, kind: Kind) -> Made<Option<Vec<Type>>>
     ensures { IfOk result (λ types. option_map (λ v. map view v.items) types ≡ types_of (scope_view scope.now) kind) }
 {
     match kind {
@@ -60,7 +56,7 @@ fn types_of(alloc: Global, scope: &Scope, kind: Kind) -> Result<Option<Vec<Type>
 }
 
 /// A list of the type, if there is one.
-fn listed(alloc: Global, ty: Option<&Type>) -> Result<Vec<Type>, AllocError>
+fn listed(alloc: Global, ty: Option<&Type>) -> Made<Vec<Type>>
     ensures { IfOk result (λ types. map view types.items ≡ listed (option_map (λ t. view t.now) ty.entry)) }
 {
     let mut types = Vec::new(alloc);
@@ -71,12 +67,7 @@ fn listed(alloc: Global, ty: Option<&Type>) -> Result<Vec<Type>, AllocError>
 }
 
 /// Puts a request with these types and values.
-fn put_statement(
-    statement: Statement,
-    types: Vec<Type>,
-    parts: Parts,
-    items: &mut Vec<Item>,
-) -> Result<(), Fail<Misread>>
+fn put_request(statement: Statement, types: Vec<Type>, parts: Parts, items: &mut Items) -> Read<()>
     ensures { Does (λ r. r ≡ Some (an_asked (stated statement (map view types.items) (shown (λ v. map typed_view v.items) refused_view parts)) ∷ items_view items.old.items)) items.new.items result }
 {
     push(
@@ -91,12 +82,8 @@ fn put_statement(
 
 /// `storage` in `var<storage>`
 #[tactic(auto, using(wgsl_spelling::proofs::Names::space_is))]
-pub(crate) fn put_space(
-    source: Source<'_>,
-    count: usize,
-    items: &mut Vec<Item>,
-) -> Result<(), Fail<Misread>>
-    ensures { Does (InSpace (source_view source.entry) count (items_view items.old.items)) items.new.items result }
+pub fn put_space(source: &Source<'_>, count: usize, items: &mut Items) -> Read<()>
+    ensures { Does (InSpace (source_view source.now) count (items_view items.old.items)) items.new.items result }
 {
     match AddressSpace::named_by(RuleSet::Standard, source.text_at(count)) {
         Some(space) => put_in_space(source, space, items),
@@ -104,11 +91,7 @@ pub(crate) fn put_space(
     }
 }
 
-fn put_in_space(
-    source: Source<'_>,
-    space: AddressSpace,
-    items: &mut Vec<Item>,
-) -> Result<(), Fail<Misread>>
+fn put_in_space(source: &Source<'_>, space: AddressSpace, items: &mut Items) -> Read<()>
     ensures { Does (Changes (with_space space) (items_view items.old.items)) items.new.items result }
 {
     let mut asked = take_asked(source, items)?;
@@ -117,12 +100,8 @@ fn put_in_space(
 }
 
 /// `read` in `var<storage, read>`
-pub(crate) fn put_access(
-    source: Source<'_>,
-    count: usize,
-    items: &mut Vec<Item>,
-) -> Result<(), Fail<Misread>>
-    ensures { Does (WithAccess (source_view source.entry) count (items_view items.old.items)) items.new.items result }
+pub fn put_access(source: &Source<'_>, count: usize, items: &mut Items) -> Read<()>
+    ensures { Does (WithAccess (source_view source.now) count (items_view items.old.items)) items.new.items result }
 {
     match access_named(source.text_at(count)) {
         Some(access) => put_with_access(source, access, items),
@@ -130,11 +109,7 @@ pub(crate) fn put_access(
     }
 }
 
-fn put_with_access(
-    source: Source<'_>,
-    access: AccessMode,
-    items: &mut Vec<Item>,
-) -> Result<(), Fail<Misread>>
+fn put_with_access(source: &Source<'_>, access: AccessMode, items: &mut Items) -> Read<()>
     ensures { Does (Changes (with_access access) (items_view items.old.items)) items.new.items result }
 {
     let mut asked = take_asked(source, items)?;
@@ -147,88 +122,61 @@ fn expected(expected: Expected) -> Wanted {
 }
 
 /// `: f32`, `size f32`
-pub(crate) fn annotate(
-    alloc: Global,
-    source: Source<'_>,
-    scope: &Scope,
-    index: usize,
-    items: &mut Vec<Item>,
-) -> Result<(), Fail<Misread>>
-    ensures { Does (Annotated (source_view source.entry) (scope_view scope.now) index (items_view items.old.items)) items.new.items result }
+pub fn annotate(source: &Source<'_>, scope: &Scope, index: usize, items: &mut Items) -> Read<()>
+    ensures { Does (Annotated (source_view source.now) (scope_view scope.now) index (items_view items.old.items)) items.new.items result }
 {
     let from = take_name(source, items)?;
-    match source.type_noted(alloc, scope, source.noted(from, index))? {
+    match source.type_noted(scope, source.noted(from, index))? {
         Ok((ty, _)) => put_type(source, ty, items),
         Err(fault) => Err(untyped(fault, Wanted::Type)),
     }
 }
 
 /// `layout struct S { a: f32 }`
-pub(crate) fn put_struct_type(
-    alloc: Global,
-    source: Source<'_>,
-    items: &mut Vec<Item>,
-) -> Result<(), Fail<Misread>>
+pub fn put_struct_type(source: &Source<'_>, items: &mut Items) -> Read<()>
     ensures { Does (WithStruct (items_view items.old.items)) items.new.items result }
 {
-    let (ty, _) = take_struct(alloc, source, items)?;
+    let (ty, _) = take_struct(source, items)?;
     put_type(source, ty, items)
 }
 
 /// One more type.
-fn put_type(source: Source<'_>, ty: Type, items: &mut Vec<Item>) -> Result<(), Fail<Misread>>
+fn put_type(source: &Source<'_>, ty: Type, items: &mut Items) -> Read<()>
     ensures { Does (OfType (view ty) (items_view items.old.items)) items.new.items result }
 {
-    let Asked {
-        statement,
-        types,
-        parts,
-    } = take_asked(source, items)?;
-    let mut types = types;
-    types.push(ty)?;
-    put_statement(statement, types, parts, items)
+    let mut asked = take_asked(source, items)?;
+    asked.types.push(ty)?;
+    push(Item::Asked(asked), items)
 }
 
 /// One more value.
-pub(crate) fn put_value(source: Source<'_>, items: &mut Vec<Item>) -> Result<(), Fail<Misread>>
+pub fn put_value(source: &Source<'_>, items: &mut Items) -> Read<()>
     ensures { Does (Value (items_view items.old.items)) items.new.items result }
 {
     let x = take_operand(source, items)?;
-    let Asked {
-        statement,
-        types,
-        parts,
-    } = take_asked(source, items)?;
-    let parts = with_part(parts, x)?;
-    put_statement(statement, types, parts, items)
+    let mut asked = take_asked(source, items)?;
+    asked.parts = with_part(asked.parts, x)?;
+    push(Item::Asked(asked), items)
 }
 
 /// `a = b`
-pub(crate) fn assign(
-    alloc: Global,
-    source: Source<'_>,
-    items: &mut Vec<Item>,
-) -> Result<(), Fail<Misread>>
+pub fn assign(source: &Source<'_>, items: &mut Items) -> Read<()>
     ensures { Does (Assigns (items_view items.old.items)) items.new.items result }
 {
     let y = take_operand(source, items)?;
     let x = take_operand(source, items)?;
-    put_assignment(alloc, AssignmentOperator::Equal, x, y, items)
+    put_assignment(source.alloc, AssignmentOperator::Equal, x, y, items)
 }
 
 /// `a += b`
-pub(crate) fn assign_by(
-    alloc: Global,
-    source: Source<'_>,
-    items: &mut Vec<Item>,
-) -> Result<(), Fail<Misread>>
-    ensures { Does (AssignsBy (source_view source.entry) (items_view items.old.items)) items.new.items result }
+pub fn assign_by(source: &Source<'_>, items: &mut Items) -> Read<()>
+    ensures { Does (AssignsBy (source_view source.now) (items_view items.old.items)) items.new.items result }
 {
     let y = take_operand(source, items)?;
     let count = take_operator(source, items)?;
     let x = take_operand(source, items)?;
     match assignment_of(source.text_at(count)) {
-        Some(operator) => put_assignment(alloc, operator, x, y, items),
+        Some(operator) => put_assignment(source.alloc, operator, x, y, items),
         None => {
             drop(x);
             drop(y);
@@ -242,61 +190,30 @@ fn put_assignment(
     operator: AssignmentOperator,
     x: Outcome,
     y: Outcome,
-    items: &mut Vec<Item>,
-) -> Result<(), Fail<Misread>>
+    items: &mut Items,
+) -> Read<()>
     ensures { Does (Assigned operator (outcome_view x) (outcome_view y) (items_view items.old.items)) items.new.items result }
 {
     let parts = with_part(with_part(Ok(Vec::new(alloc)), x)?, y)?;
-    put_statement(
-        Statement::Assignment(operator),
-        Vec::new(alloc),
-        parts,
-        items,
-    )
+    let statement = Statement::Assignment(operator);
+    put_request(statement, Vec::new(alloc), parts, items)
 }
 
 /// `a++`, `a--`
-pub(crate) fn increment(
-    alloc: Global,
-    source: Source<'_>,
-    items: &mut Vec<Item>,
-) -> Result<(), Fail<Misread>>
+pub fn increment(source: &Source<'_>, items: &mut Items) -> Read<()>
     ensures { Does (Increments (items_view items.old.items)) items.new.items result }
 {
     let x = take_operand(source, items)?;
-    let parts = with_part(Ok(Vec::new(alloc)), x)?;
-    put_statement(Statement::Increment, Vec::new(alloc), parts, items)
+    let parts = with_part(Ok(Vec::new(source.alloc)), x)?;
+    put_request(Statement::Increment, Vec::new(source.alloc), parts, items)
 }
 
 /// `resolve f(a)`, `why f(a)`, `f(a)`
-pub(crate) fn put_question(
-    source: Source<'_>,
-    question: Question,
-    count: usize,
-    items: &mut Vec<Item>,
-) -> Result<(), Fail<Misread>>
-    ensures { Does (Asks question (items_view items.old.items)) items.new.items result }
+pub fn put_asked(source: &Source<'_>, asked: Question, count: usize, items: &mut Items) -> Read<()>
+    ensures { Does (Asks asked (items_view items.old.items)) items.new.items result }
 {
-    let call = take_asked_call(source, question, count, items)?;
-    push(Item::Question(question, call), items)
-}
-
-/// Takes the call on top, about which this is asked.
-fn take_asked_call(
-    source: Source<'_>,
-    question: Question,
-    count: usize,
-    items: &mut Vec<Item>,
-) -> Result<Call, Fail<Misread>>
-    ensures { Takes call_view (call_on (items_view items.old.items)) items.new.items result }
-{
-    match items.pop() {
-        Some(Item::Call(call)) => Ok(call),
-        other => {
-            drop(other);
-            Err(source.misread(count, wanted_by(question)))
-        }
-    }
+    let call = take_call(source, count, wanted_by(asked), items)?;
+    push(Item::Question(asked, call), items)
 }
 
 /// What is expected in place of a value about which nothing is asked.
@@ -308,12 +225,8 @@ fn wanted_by(question: Question) -> Wanted {
 }
 
 /// `overloads f`
-pub(crate) fn put_overloads(
-    source: Source<'_>,
-    count: usize,
-    items: &mut Vec<Item>,
-) -> Result<(), Fail<Misread>>
-    ensures { Does (Overloads (source_view source.entry) count (items_view items.old.items)) items.new.items result }
+pub fn put_overloads(source: &Source<'_>, count: usize, items: &mut Items) -> Read<()>
+    ensures { Does (Overloads (source_view source.now) count (items_view items.old.items)) items.new.items result }
 {
     match source.last(count) {
         Some(token) => push(Item::Overloads(token), items),

@@ -1,106 +1,95 @@
 // What is done with what was read, by what is noted.
-ghost use Rattle.std.specs.Prelude.{◌≡◌, ◌∷◌, IfOk, Some, map};
+ghost use Rattle.std.specs.Prelude.{◌≡◌, ◌∷◌, IfOk, None, Some, length, map};
 ghost use Rattle.wgsl_core.specs.View.{view};
-ghost use Rattle.wgsl_expressions.specs.Outcomes.{IsCalled};
+ghost use Rattle.wgsl_expressions.specs.Outcomes.{IsCalled, no_parts, overloaded, with_part};
+ghost use Rattle.wgsl_expressions.specs.Prelude.{a_binary};
+ghost use Rattle.wgsl_expressions.specs.Source.{noted};
 ghost use Rattle.wgsl_expressions.specs.Stack.{a_call};
-ghost use Rattle.wgsl_expressions.specs.Steps.{Argument, Binary, Calls, Element, Ends, Given, Literal, Member, Opens, Unary, asks_behind, asks_call, begun, given};
-ghost use Rattle.wgsl_expressions.specs.Typing.{Steps, step_of};
+ghost use Rattle.wgsl_expressions.specs.Steps.{Argument, Binary, Calls, Element, Ends, Given, Literal, Member, Opens, Unary, asks_behind, asks_call, begun, call_with, given};
+ghost use Rattle.wgsl_expressions.specs.Typing.{Steps};
 ghost use Rattle.wgsl_expressions.specs.Views.{Does, call_view, head_view, items_view, outcome_view, refused_view, scope_view, shown, source_view, typed_view};
 
-use crate::ask::{call, element, member};
-use crate::head::Head;
+use crate::ask::{binary, call, element, member};
 use crate::heading::{begin_heading, put_attribute, put_member as put_declared, put_result};
 use crate::item::{
-    Call, Item, push, put, take_bracket, take_call, take_name, take_operand, take_operator,
+    Call, Item, Items, push, put, take_bracket, take_call, take_name, take_operand, take_operator,
 };
 use crate::literal::type_of_literal;
-use crate::misread::{Misread, Wanted, untyped};
+use crate::misread::{Read, Wanted, untyped};
 use crate::name::head_noted;
-use crate::outcome::{Outcome, Typed, with_part};
+use crate::outcome::{Head, Outcome, given, with_part};
 use crate::scope::Scope;
 use crate::source::{Source, first_count};
 use crate::statement::Question;
 use crate::statement_step::{
-    annotate, assign, assign_by, begin, increment, put_access, put_overloads, put_question,
-    put_space, put_struct_type, put_value,
+    annotate, assign, assign_by, begin, increment, put_access, put_asked, put_overloads, put_space,
+    put_struct_type, put_value,
 };
-use std::alloc::{AllocError, Global};
-use wgsl_core::error::Fail;
+use std::alloc::Global;
 use wgsl_core::ty::Type;
 use wgsl_forms::concrete::has_abstract_type;
-use wgsl_forms::form::Referent;
 use wgsl_reader::mark::Mark;
 use wgsl_reader::read::Event;
+use wgsl_requests::reply::Made;
 use wgsl_spelling::operator::{binary_of, unary_of};
 use wgsl_spelling::word::word;
+use wgsl_syntax::operator::BinaryOperator;
 
 /// Does with the items what is noted at an index, with the names of a scope: the last item is on top.
 #[inline(always)]
-pub(crate) fn step(
-    alloc: Global,
-    source: Source<'_>,
+pub fn step(
+    source: &Source<'_>,
     scope: &Scope,
     index: usize,
     event: Event,
-    items: &mut Vec<Item>,
-) -> Result<(), Fail<Misread>>
-    ensures { Does (Steps (source_view source.entry) (scope_view scope.now) index (step_of event.mark) event.at (items_view items.old.items)) items.new.items result }
+    items: &mut Items,
+) -> Read<()>
+    ensures { Does (Steps (source_view source.now) (scope_view scope.now) index event.mark event.at (items_view items.old.items)) items.new.items result }
 {
     match event.mark {
         Mark::Literal => put_literal(source, event.at, items),
         Mark::Name | Mark::AttributeName => push(Item::Name(index), items),
-        Mark::Value => put_given(alloc, source, scope, index, false, items),
-        Mark::Constant => put_given(alloc, source, scope, index, true, items),
-        Mark::Open => open(alloc, source, scope, index, items),
+        Mark::Value => put_given(source, scope, index, false, items),
+        Mark::Constant => put_given(source, scope, index, true, items),
+        Mark::Open => open(source, scope, index, items),
         Mark::OpenElement => push(Item::Bracket(source.byte_at(event.at)), items),
         Mark::Argument => put_argument(source, items),
-        Mark::Call => put_call(alloc, source, index, items),
-        Mark::MemberOf => put_member(alloc, source, event.at, items),
-        Mark::Element => put_element(alloc, source, items),
+        Mark::Call => put_call(source, index, items),
+        Mark::MemberOf => put_member(source, event.at, items),
+        Mark::Element => put_element(source, items),
         Mark::Operator => push(Item::Operator(event.at), items),
-        Mark::Unary => put_unary(alloc, source, index, items),
-        Mark::Binary => put_binary(alloc, source, index, items),
-        Mark::Keyword => begin(alloc, source, scope, event.at, items),
+        Mark::Unary => put_unary(source, index, items),
+        Mark::Binary => put_binary(source, index, items),
+        Mark::Keyword => begin(source, scope, event.at, items),
         Mark::AddressSpace => put_space(source, event.at, items),
         Mark::AccessMode => put_access(source, event.at, items),
-        Mark::Typed => annotate(alloc, source, scope, index, items),
+        Mark::Typed => annotate(source, scope, index, items),
         Mark::Initialized | Mark::Condition => put_value(source, items),
         Mark::Selector | Mark::CaseSelector | Mark::Returned => put_value(source, items),
-        Mark::Assign => assign(alloc, source, items),
-        Mark::AssignBy => assign_by(alloc, source, items),
-        Mark::Increment | Mark::Decrement => increment(alloc, source, items),
-        Mark::CallStatement => put_question(source, Question::Type, event.at, items),
-        Mark::Resolve => put_question(source, Question::Resolution, event.at, items),
-        Mark::Why => put_question(source, Question::Explanation, event.at, items),
+        Mark::Assign => assign(source, items),
+        Mark::AssignBy => assign_by(source, items),
+        Mark::Increment | Mark::Decrement => increment(source, items),
+        Mark::CallStatement => put_asked(source, Question::Type, event.at, items),
+        Mark::Resolve => put_asked(source, Question::Resolution, event.at, items),
+        Mark::Why => put_asked(source, Question::Explanation, event.at, items),
         Mark::Overloads => put_overloads(source, event.at, items),
-        Mark::StructType => put_struct_type(alloc, source, items),
-        Mark::Heading => begin_heading(alloc, source, event.at, items),
-        Mark::Attribute => put_attribute(alloc, source, index, items),
-        Mark::Member | Mark::Parameter => put_declared(alloc, source, scope, index, items),
-        Mark::Result => put_result(alloc, source, scope, index, items),
+        Mark::StructType => put_struct_type(source, items),
+        Mark::Heading => begin_heading(source, event.at, items),
+        Mark::Attribute => put_attribute(source, index, items),
+        Mark::Member | Mark::Parameter => put_declared(source, scope, index, items),
+        Mark::Result => put_result(source, scope, index, items),
         _ => Ok(()),
     }
 }
 
-/// An operand that is given by its type.
-fn given(ty: Type, is_constant: bool) -> Typed
-    ensures { typed_view result ≡ given is_constant (view ty) }
-{
-    Typed {
-        ty,
-        is_constant,
-        referent: Referent::Whole,
-    }
-}
-
 /// `1.5`, `true`
-fn put_literal(source: Source<'_>, count: usize, items: &mut Vec<Item>) -> Result<(), Fail<Misread>>
-    ensures { Does (Literal (source_view source.entry) count (items_view items.old.items)) items.new.items result }
+fn put_literal(source: &Source<'_>, count: usize, items: &mut Items) -> Read<()>
+    ensures { Does (Literal (source_view source.now) count (items_view items.old.items)) items.new.items result }
 {
     match source.last(count) {
         Some(token) => {
             let scalar = type_of_literal(token.kind, word(source.text, token).as_bytes());
-            put(source, Ok(given(Type::from(scalar), true)), items)
+            push(Item::Operand(Ok(given(Type::from(scalar), true))), items)
         }
         None => Err(source.misread(count, Wanted::Operand)),
     }
@@ -109,18 +98,17 @@ fn put_literal(source: Source<'_>, count: usize, items: &mut Vec<Item>) -> Resul
 /// `f32`, `const f32`
 #[inline(always)]
 fn put_given(
-    alloc: Global,
-    source: Source<'_>,
+    source: &Source<'_>,
     scope: &Scope,
     index: usize,
     is_const: bool,
-    items: &mut Vec<Item>,
-) -> Result<(), Fail<Misread>>
-    ensures { Does (Given is_const (source_view source.entry) (scope_view scope.now) index (items_view items.old.items)) items.new.items result }
+    items: &mut Items,
+) -> Read<()>
+    ensures { Does (Given is_const (source_view source.now) (scope_view scope.now) index (items_view items.old.items)) items.new.items result }
 {
     let from = take_name(source, items)?;
     let noted = source.noted(from, index);
-    match source.type_noted(alloc, scope, noted)? {
+    match source.type_noted(scope, noted)? {
         Ok((ty, _)) => {
             let is_constant = is_const || has_abstract_type(&ty);
             put(source, Ok(given(ty, is_constant)), items)
@@ -131,31 +119,20 @@ fn put_given(
 }
 
 /// The `(` behind what is called by the name that is noted with its list.
-fn open(
-    alloc: Global,
-    source: Source<'_>,
-    scope: &Scope,
-    index: usize,
-    items: &mut Vec<Item>,
-) -> Result<(), Fail<Misread>>
-    ensures { Does (Opens (source_view source.entry) (scope_view scope.now) index (items_view items.old.items)) items.new.items result }
+fn open(source: &Source<'_>, scope: &Scope, index: usize, items: &mut Items) -> Read<()>
+    ensures { Does (Opens (source_view source.now) (scope_view scope.now) index (items_view items.old.items)) items.new.items result }
 {
     let from = take_name(source, items)?;
     let noted = source.noted(from, index);
     let count = first_count(noted);
-    match head_noted(alloc, source, scope, noted)? {
-        Ok(head) => push_call(alloc, source.byte_at(count), head, items),
+    match head_noted(source, scope, noted)? {
+        Ok(head) => push_call(source.alloc, source.byte_at(count), head, items),
         Err(fault) => Err(untyped(fault, Wanted::Type)),
     }
 }
 
 /// Begins a call, whose first byte is at that index.
-fn push_call(
-    alloc: Global,
-    at: usize,
-    head: Head,
-    items: &mut Vec<Item>,
-) -> Result<(), Fail<Misread>>
+fn push_call(alloc: Global, at: usize, head: Head, items: &mut Items) -> Read<()>
     ensures { Does (λ r. r ≡ Some (a_call (begun at (head_view head)) ∷ items_view items.old.items)) items.new.items result }
 {
     let parts = Ok(Vec::with_capacity(alloc, 4)?);
@@ -163,44 +140,40 @@ fn push_call(
 }
 
 /// One more argument.
-fn put_argument(source: Source<'_>, items: &mut Vec<Item>) -> Result<(), Fail<Misread>>
+fn put_argument(source: &Source<'_>, items: &mut Items) -> Read<()>
     ensures { Does (Argument (items_view items.old.items)) items.new.items result }
 {
     let x = take_operand(source, items)?;
-    let call = take_call(source, items)?;
-    let Call { at, head, parts } = call;
+    let Call { at, head, parts } = take_call(source, 1, Wanted::Operand, items)?;
     let parts = with_part(parts, x)?;
     push(Item::Call(Call { at, head, parts }), items)
 }
 
 /// `f(a, b)`
-fn put_call(
-    alloc: Global,
-    source: Source<'_>,
-    index: usize,
-    items: &mut Vec<Item>,
-) -> Result<(), Fail<Misread>>
-    ensures { Does (Calls (source_view source.entry) index (items_view items.old.items)) items.new.items result }
+fn put_call(source: &Source<'_>, index: usize, items: &mut Items) -> Read<()>
+    ensures { Does (Calls (source_view source.now) index (items_view items.old.items)) items.new.items result }
 {
-    let call = take_call(source, items)?;
-    end_call(alloc, source, index, call, items)
+    let call = take_call(source, 1, Wanted::Operand, items)?;
+    end_call(source, index, call, items)
 }
 
 /// Puts a call with all of its operands, or its type if nothing is asked about the call itself.
-fn end_call(
-    alloc: Global,
-    source: Source<'_>,
-    index: usize,
-    call: Call,
-    items: &mut Vec<Item>,
-) -> Result<(), Fail<Misread>>
-    ensures { Does (Ends (source_view source.entry) index (call_view call) (items_view items.old.items)) items.new.items result }
+fn end_call(source: &Source<'_>, index: usize, call: Call, items: &mut Items) -> Read<()>
+    ensures { Does (Ends (source_view source.now) index (call_view call) (items_view items.old.items)) items.new.items result }
 {
-    if asks_behind(source.noted(index, source.events.len())) {
+    if is_asked(source, index) {
         return push(Item::Call(call), items);
     }
-    let outcome = called(alloc, call)?;
+    let outcome = called(source.alloc, call)?;
     put(source, outcome, items)
+}
+
+/// Whether something is asked about the call that ends with the event at an index.
+#[inline(never)]
+fn is_asked(source: &Source<'_>, index: usize) -> bool
+    ensures { result ≡ asks_behind (noted (source_view source.now) index (length source.now.events.now)) }
+{
+    asks_behind(source.noted(index, source.events.len()))
 }
 
 /// Whether what is noted behind the first event asks about it.
@@ -228,7 +201,7 @@ fn asks_call(events: &[Event]) -> bool
 }
 
 /// The outcome of a call.
-fn called(alloc: Global, ended: Call) -> Result<Outcome, AllocError>
+fn called(alloc: Global, ended: Call) -> Made<Outcome>
     ensures { IfOk result (λ r. IsCalled ended.at (head_view ended.head) (shown (λ v. map typed_view v.items) refused_view ended.parts) (outcome_view r)) }
 {
     let Call { at, head, parts } = ended;
@@ -238,42 +211,33 @@ fn called(alloc: Global, ended: Call) -> Result<Outcome, AllocError>
 }
 
 /// `a.x`
-fn put_member(
-    alloc: Global,
-    source: Source<'_>,
-    count: usize,
-    items: &mut Vec<Item>,
-) -> Result<(), Fail<Misread>>
-    ensures { Does (Member (source_view source.entry) count (items_view items.old.items)) items.new.items result }
+fn put_member(source: &Source<'_>, count: usize, items: &mut Items) -> Read<()>
+    ensures { Does (Member (source_view source.now) count (items_view items.old.items)) items.new.items result }
 {
     let x = take_operand(source, items)?;
-    let outcome = member(alloc, source.byte_at(count), source.text_at(count), x)?;
+    let outcome = member(
+        source.alloc,
+        source.byte_at(count),
+        source.text_at(count),
+        x,
+    )?;
     put(source, outcome, items)
 }
 
 /// `a[i]`
-fn put_element(
-    alloc: Global,
-    source: Source<'_>,
-    items: &mut Vec<Item>,
-) -> Result<(), Fail<Misread>>
+fn put_element(source: &Source<'_>, items: &mut Items) -> Read<()>
     ensures { Does (Element (items_view items.old.items)) items.new.items result }
 {
     let index = take_operand(source, items)?;
     let at = take_bracket(source, items)?;
     let x = take_operand(source, items)?;
-    let outcome = element(alloc, at, x, index)?;
+    let outcome = element(source.alloc, at, x, index)?;
     put(source, outcome, items)
 }
 
 /// `-a`
-fn put_unary(
-    alloc: Global,
-    source: Source<'_>,
-    index: usize,
-    items: &mut Vec<Item>,
-) -> Result<(), Fail<Misread>>
-    ensures { Does (Unary (source_view source.entry) index (items_view items.old.items)) items.new.items result }
+fn put_unary(source: &Source<'_>, index: usize, items: &mut Items) -> Read<()>
+    ensures { Does (Unary (source_view source.now) index (items_view items.old.items)) items.new.items result }
 {
     let x = take_operand(source, items)?;
     let count = take_operator(source, items)?;
@@ -281,8 +245,8 @@ fn put_unary(
         Some(operator) => {
             let at = source.byte_at(count);
             let head = Head::Unary(operator);
-            let parts = with_part(Ok(Vec::with_capacity(alloc, 1)?), x)?;
-            end_call(alloc, source, index, Call { at, head, parts }, items)
+            let parts = with_part(Ok(Vec::with_capacity(source.alloc, 1)?), x)?;
+            end_call(source, index, Call { at, head, parts }, items)
         }
         None => {
             drop(x);
@@ -292,23 +256,15 @@ fn put_unary(
 }
 
 /// `a + b`
-fn put_binary(
-    alloc: Global,
-    source: Source<'_>,
-    index: usize,
-    items: &mut Vec<Item>,
-) -> Result<(), Fail<Misread>>
-    ensures { Does (Binary (source_view source.entry) index (items_view items.old.items)) items.new.items result }
+fn put_binary(source: &Source<'_>, index: usize, items: &mut Items) -> Read<()>
+    ensures { Does (Binary (source_view source.now) index (items_view items.old.items)) items.new.items result }
 {
     let y = take_operand(source, items)?;
     let count = take_operator(source, items)?;
     let x = take_operand(source, items)?;
     match binary_of(source.kind_at(count)) {
         Some(operator) => {
-            let at = source.byte_at(count);
-            let head = Head::Binary(operator);
-            let parts = with_part(with_part(Ok(Vec::with_capacity(alloc, 2)?), x)?, y)?;
-            end_call(alloc, source, index, Call { at, head, parts }, items)
+            end_binary(source, index, source.byte_at(count), operator, x, y, items)
         }
         None => {
             drop(x);
@@ -316,4 +272,27 @@ fn put_binary(
             Err(source.misread(count, Wanted::Operand))
         }
     }
+}
+
+/// Puts a binary expression whose operator is at that byte, or its type if nothing is asked about it.
+#[inline(always)]
+fn end_binary(
+    source: &Source<'_>,
+    index: usize,
+    at: usize,
+    operator: BinaryOperator,
+    x: Outcome,
+    y: Outcome,
+    items: &mut Items,
+) -> Read<()>
+    ensures { Does (Ends (source_view source.now) index (call_with at (overloaded (a_binary operator) None) (with_part (with_part no_parts (outcome_view x)) (outcome_view y)))
+        (items_view items.old.items)) items.new.items result }
+{
+    if is_asked(source, index) {
+        let head = Head::Binary(operator);
+        let parts = with_part(with_part(Ok(Vec::with_capacity(source.alloc, 2)?), x)?, y)?;
+        return push(Item::Call(Call { at, head, parts }), items);
+    }
+    let outcome = binary(source.alloc, at, operator, x, y)?;
+    put(source, outcome, items)
 }

@@ -1,20 +1,12 @@
 -- The result structs of abstract floats are recognised.
-use Rattle.std.proofs.Common.{◌≡◌, List, [], ◌∷◌, Option, Some, None, Bool, true, false, cond, ◌⊎◌, inl, inr, ◌↔◌, refl, sym, ◌∙◌, ap, subst}
-use Rattle.std.specs.Prelude.{option_and_then}
-use Rattle.std.specs.Bool.{Decides}
-use Rattle.wgsl_syntax.specs.declared.result_struct.ResultFunction.{ResultFunction}
-use Rattle.wgsl_syntax.specs.declared.result_struct.ResultFunction.TheVariants.{Frexp, Modf}
-use Rattle.wgsl_syntax.specs.declared.result_struct.ResultShape.{ResultShape}
+use Rattle.std.proofs.Common.{◌≡◌, List, [], ◌∷◌, Option, Some, None, Bool, true, false, cond, ◌⊎◌, inl, inr, ◌↔◌, refl, sym, ◌∙◌, ap, subst, option_and_then, Decides}
+use Rattle.wgsl_forms.proofs.Common.{ResultFunction, Frexp, Modf, ResultShape, WgslType, result_struct, abstract_results, result_among, abstract_result, abstract_name}
 use Rattle.wgsl_syntax.specs.declared.result_struct.ResultShape.TheVariants as shape
 use Rattle.wgsl_syntax.specs.declared.result_struct.ResultPrecision.{ResultPrecision}
 use Rattle.wgsl_syntax.specs.declared.result_struct.ResultPrecision.TheVariants as precision
 use Rattle.wgsl_syntax.specs.declared.result_struct.ResultStruct.{ResultStruct}
-use Rattle.wgsl_rules.specs.types.Types.{WgslType}
-use Rattle.wgsl_rules.specs.types.ResultStructs.{result_struct}
 use Rattle.wgsl_core.specs.Equality.{type_eq, type_eq_decides}
 use Rattle.wgsl_core.specs.ResultStruct.{result_type}
-use Rattle.wgsl_forms.specs.Concrete.{abstract_results, result_among, abstract_result}
-use Rattle.wgsl_forms.specs.internal.Results.{abstract_name}
 
 abbrev Name : Type 0
 Name = ResultFunction × ResultShape

@@ -1,13 +1,8 @@
 -- The common type of the values that a loop has not seen yet.
 use Rattle.std.proofs.Common.{◌≡◌, ◌+◌, ◌<◌, ◌≤◌, ℕ, List, ◌∷◌, Option, Some, None, length, drop, get_or, map, refl, sym, subst, ap, ◌∙◌}
 use Rattle.std.proofs.lemmas.List.{drop_more, drop_all}
-use Rattle.wgsl_rules.specs.types.Types.{WgslType}
-use Rattle.wgsl_rules.specs.conversion.Common.{IsCommon, IsLeftCommon}
-use Rattle.wgsl_rules.proofs.conversion.Folds.{IsFoldedFrom, folded, none_stays}
-use Rattle.wgsl_standard.specs.Operands.{given_type}
-use Rattle.wgsl_standard.specs.Texts.{types_given}
+use Rattle.wgsl_forms.proofs.Common.{WgslType, IsCommon, IsLeftCommon, IsFoldedFrom, folded, none_stays, given_type, types_given, referred}
 use Rattle.wgsl_standard.specs.declared.operand.Operand.{Operand as CodeOperand}
-use Rattle.wgsl_forms.specs.Array.{referred}
 
 abbrev values : List CodeOperand → List WgslType
 values xs = map referred (types_given xs)

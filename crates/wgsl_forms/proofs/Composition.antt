@@ -1,13 +1,8 @@
 -- Laws of members, indexes and addresses.
 use Rattle.std.proofs.Common.{◌≡◌, ℕ, List, Ok, refl, subst}
-use Rattle.wgsl_syntax.specs.declared.address.AddressSpace.{AddressSpace}
+use Rattle.wgsl_forms.proofs.Common.{AddressSpace, AccessMode, WgslType, pointer, reference, Operand, Expression, PointersCompose, AddressesInvert}
 use Rattle.wgsl_syntax.specs.declared.address.AddressSpace.TheVariants.{Handle}
-use Rattle.wgsl_syntax.specs.declared.address.AccessMode.{AccessMode}
-use Rattle.wgsl_rules.specs.types.Types.{WgslType, pointer, reference}
-use Rattle.wgsl_rules.specs.standard.Choice.{Operand}
 use Rattle.wgsl_forms.specs.Address.{at_run_time, indirection_answer}
-use Rattle.wgsl_forms.specs.Expressions.{Expression}
-use Rattle.wgsl_forms.specs.Laws.{PointersCompose, AddressesInvert}
 
 pub compose : (s : AddressSpace) (t : WgslType) (a : AccessMode) (name : List ℕ) (i : Operand) → PointersCompose s t a name i
 compose s t a name i c = (refl, refl)

@@ -1,14 +1,9 @@
 -- A type that was made concrete has no abstract type in it.
 use Rattle.std.proofs.Common.{◌≡◌, ℕ, List, Option, Some, None, Bool, true, false, cond, refl, sym, ap, ◌∙◌, arith}
-use Rattle.wgsl_syntax.specs.declared.scalar.Scalar.TheVariants.{AbstractInt, AbstractFloat, F32}
-use Rattle.wgsl_syntax.specs.declared.result_struct.ResultFunction.{ResultFunction}
-use Rattle.wgsl_syntax.specs.declared.result_struct.ResultShape.{ResultShape}
+use Rattle.wgsl_forms.proofs.Common.{AbstractInt, AbstractFloat, F32, ResultFunction, ResultShape, array_of, vec_of, mat_of, WgslType, Members, scalar, within, struct, result_struct, MakesConcrete}
 use Rattle.wgsl_syntax.specs.declared.result_struct.ResultPrecision.TheVariants as precision
-use Rattle.wgsl_rules.specs.types.Types.{array_of, vec_of, mat_of, WgslType, Members, scalar, within, struct}
-use Rattle.wgsl_rules.specs.types.ResultStructs.{result_struct}
 use Rattle.wgsl_rules.proofs.conversion.Steps.{depth, depth-result_struct}
 use Rattle.wgsl_forms.specs.Concrete.{abstract_results, abstract_result, is_result, concrete_result, has_abstract_type, concrete_of}
-use Rattle.wgsl_forms.specs.Laws.{MakesConcrete}
 use Rattle.wgsl_forms.proofs.AbstractResults.{among_is}
 
 no_name : (f : ResultFunction) (s : ResultShape) (o : Option (ResultFunction × ResultShape)) → abstract_result (result_struct f s precision.F32) ≡ o → o ≡ None

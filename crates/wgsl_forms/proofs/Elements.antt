@@ -1,14 +1,7 @@
 -- A type without elements has none when it is made concrete, and one that isn't abstract stays.
 use Rattle.std.proofs.Common.{◌≡◌, Option, Some, None, Bool, true, false, not, ◌||◌, cond, refl, sym}
-use Rattle.wgsl_syntax.specs.declared.scalar.Scalar.{Scalar}
-use Rattle.wgsl_syntax.specs.declared.scalar.Scalar.TheVariants.{AbstractInt, AbstractFloat}
-use Rattle.wgsl_syntax.specs.declared.result_struct.ResultFunction.{ResultFunction}
-use Rattle.wgsl_syntax.specs.declared.result_struct.ResultShape.{ResultShape}
-use Rattle.wgsl_rules.specs.types.Types.{array_of, vec_of, mat_of, WgslType, scalar, within, struct, pointer, reference}
-use Rattle.wgsl_rules.specs.types.ResultStructs.{result_struct}
-use Rattle.wgsl_forms.specs.Concrete.{concrete_of, concrete_result, abstract_result, has_abstract_type}
+use Rattle.wgsl_forms.proofs.Common.{Scalar, AbstractInt, AbstractFloat, ResultFunction, ResultShape, array_of, vec_of, mat_of, WgslType, scalar, within, struct, pointer, reference, result_struct, concrete_of, concrete_result, abstract_result, has_abstract_type, behind, is_memory}
 use Rattle.wgsl_forms.specs.Index.{element_of}
-use Rattle.wgsl_forms.specs.Memory.{behind, is_memory}
 use Rattle.wgsl_forms.proofs.ConcreteTypes.{makes_concrete}
 
 none_in_result : (t : WgslType) (r : Option (ResultFunction × ResultShape)) → element_of t ≡ None → element_of (concrete_result t r) ≡ None

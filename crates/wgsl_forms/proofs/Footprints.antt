@@ -1,11 +1,6 @@
 -- What a struct ends in, by its last member.
-use Rattle.std.proofs.Common.{◌≡◌, List, [], ◌∷◌, ◌++◌, Bool, true, false, refl, sym, ap, ◌∙◌}
-use Rattle.std.specs.Prelude.{◌&&◌}
-use Rattle.wgsl_core.specs.View.{member_view}
-use Rattle.wgsl_core.specs.internal.View.{members_view}
-use Rattle.wgsl_core.specs.declared.ty.StructMemberType.{StructMemberType}
-use Rattle.wgsl_forms.specs.Kinds.{have_fixed_footprint, has_fixed_footprint}
-use Rattle.wgsl_forms.specs.Variable.{may_end, may_end_members}
+use Rattle.std.proofs.Common.{◌≡◌, List, [], ◌∷◌, ◌++◌, Bool, true, false, refl, sym, ap, ◌∙◌, ◌&&◌}
+use Rattle.wgsl_forms.proofs.Common.{member_view, members_view, StructMemberType, have_fixed_footprint, has_fixed_footprint, may_end, may_end_members}
 
 and_assoc : (a b c : Bool) → ((a && b) && c) ≡ (a && (b && c))
 and_assoc true b c = refl

@@ -1,11 +1,6 @@
 -- Conversion of and to scalars and layers, by cases.
-use Rattle.std.proofs.Common.{◌≡◌, ◌↔◌, ℕ, Bool, true, false, IsTrue, Option, Some, None, refl, sym, ap, subst, ◌∙◌}
-use Rattle.std.specs.Option.{is_some}
-use Rattle.wgsl_syntax.specs.declared.scalar.Scalar.{Scalar}
-use Rattle.wgsl_rules.specs.types.Types.{Layer, WgslType, scalar, within}
-use Rattle.wgsl_rules.specs.conversion.Conversion.{Converts, ConvertsTo}
-use Rattle.wgsl_rules.proofs.conversion.Equations.{converts_from_scalar, converts_from_within, converts_within}
-use Rattle.wgsl_core.specs.Forms.{layer_of, scalar_of}
+use Rattle.std.proofs.Common.{◌≡◌, ◌↔◌, ℕ, Bool, true, false, IsTrue, Option, Some, None, refl, sym, ap, subst, ◌∙◌, is_some}
+use Rattle.wgsl_forms.proofs.Common.{Scalar, Layer, WgslType, scalar, within, Converts, ConvertsTo, converts_from_scalar, converts_from_within, converts_within, layer_of, scalar_of}
 use Rattle.wgsl_core.proofs.Scalars.{scalar_is}
 
 pub layered : (t : WgslType) (l : Layer) (e : WgslType) → layer_of t ≡ Some (l, e) → t ≡ within l e

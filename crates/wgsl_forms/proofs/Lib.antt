@@ -1,3 +1,4 @@
+pub mod Common
 pub mod AbstractResults
 pub mod Elements
 pub mod ResultTexts

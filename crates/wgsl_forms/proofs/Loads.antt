@@ -1,14 +1,8 @@
 -- Conversion to a scalar in a layer, by cases of what converts.
-use Rattle.std.proofs.Common.{◌≡◌, ◌↔◌, ℕ, Bool, true, false, IsTrue, Some, None, inl, inr, refl, sym, ap, subst, ◌∙◌}
-use Rattle.std.specs.Borrow.{Bor}
-use Rattle.wgsl_syntax.specs.declared.address.AddressSpace.{AddressSpace}
-use Rattle.wgsl_syntax.specs.declared.address.AccessMode.{AccessMode}
+use Rattle.std.proofs.Common.{◌≡◌, ◌↔◌, ℕ, Bool, true, false, IsTrue, Some, None, inl, inr, refl, sym, ap, subst, ◌∙◌, Bor}
+use Rattle.wgsl_forms.proofs.Common.{AddressSpace, AccessMode, Layer, WgslType, within, reference, Load, load, Converts, ConvertsTo, converts_within, form_view, layer_of}
 use Rattle.wgsl_syntax.specs.Address.{MayRead}
-use Rattle.wgsl_rules.specs.types.Types.{Layer, WgslType, within, reference}
-use Rattle.wgsl_rules.specs.conversion.Conversion.{Load, load, Converts, ConvertsTo}
 use Rattle.wgsl_rules.proofs.conversion.Order.{along_above, above_to_within, load_readable}
-use Rattle.wgsl_rules.proofs.conversion.Equations.{converts_within}
-use Rattle.wgsl_core.specs.Forms.{form_view, layer_of}
 use Rattle.wgsl_core.specs.declared.ty.Type.{«Type»}
 use Rattle.wgsl_core.specs.declared.ty.form.Form.{Form}
 use Rattle.wgsl_core.specs.declared.ty.form.Form.TheVariants as forms

@@ -1,8 +1,6 @@
 -- A struct has as many types of members as members.
 use Rattle.std.proofs.Common.{◌≡◌, suc, List, [], ◌∷◌, length, refl, ap}
-use Rattle.wgsl_core.specs.internal.View.{members_view}
-use Rattle.wgsl_core.specs.declared.ty.StructMemberType.{StructMemberType}
-use Rattle.wgsl_forms.specs.Lists.{member_types}
+use Rattle.wgsl_forms.proofs.Common.{members_view, StructMemberType, member_types}
 
 pub as_many : (ms : List StructMemberType) → length (member_types (members_view ms)) ≡ length ms
 as_many [] = refl

@@ -1,21 +1,12 @@
 -- Assignments and array constructors have exactly one answer.
 use Rattle.std.proofs.Common.{◌≡◌, ℕ, List, [], ◌∷◌, Option, Some, None, Result, Ok, Err, length, map, refl, ap, ◌∙◌}
-use Rattle.wgsl_syntax.specs.declared.address.AccessMode.{AccessMode}
+use Rattle.wgsl_forms.proofs.Common.{AccessMode, BinaryOperator, WgslType, reference, IsLeftCommon, IsStandardAnswer, Operand, binary_overloads, an_answer, answer_once, Fits, Refusal}
 use Rattle.wgsl_syntax.specs.declared.address.AccessMode.TheVariants.{ReadWrite}
-use Rattle.wgsl_syntax.specs.declared.operator.BinaryOperator.{BinaryOperator}
-use Rattle.wgsl_rules.specs.types.Types.{WgslType, reference}
-use Rattle.wgsl_rules.specs.conversion.Common.{IsLeftCommon}
-use Rattle.wgsl_rules.specs.standard.Answers.{IsStandardAnswer}
-use Rattle.wgsl_rules.specs.standard.Choice.{Operand}
-use Rattle.wgsl_rules.specs.standard.Operators.{binary_overloads}
 use Rattle.wgsl_rules.proofs.conversion.Commons.{left_common_once, some_left_common}
 use Rattle.wgsl_standard.proofs.NamedTables.{binary_unambiguous}
-use Rattle.wgsl_standard.proofs.StandardAnswers.{an_answer, answer_once}
 use Rattle.wgsl_forms.specs.Array.{IsAfter, IsArrayOf, all_load, array_of, referred}
 use Rattle.wgsl_forms.specs.Assign.{IsAssignedBy, IsCompound, IsCompoundTo, compound, operator_operand, stored_operand}
-use Rattle.wgsl_forms.specs.Lists.{Fits}
 use Rattle.wgsl_forms.specs.OneAnswer.{HasOneAnswer, ArraysHaveOneAnswer, AssignmentsHaveOneAnswer}
-use Rattle.wgsl_forms.specs.Refusals.{Refusal}
 
 abbrev Answer : Type 0
 Answer = Result WgslType Refusal

@@ -1,11 +1,6 @@
 -- An override is a scalar, also once it is made concrete.
 use Rattle.std.proofs.Common.{◌≡◌, Bool, true, false, Option, Some, None, cond, refl}
-use Rattle.wgsl_syntax.specs.declared.result_struct.ResultFunction.{ResultFunction}
-use Rattle.wgsl_syntax.specs.declared.result_struct.ResultShape.{ResultShape}
-use Rattle.wgsl_rules.specs.types.Types.{Layer, array_of, vec_of, mat_of, WgslType, scalar, within, struct}
-use Rattle.wgsl_rules.specs.types.ResultStructs.{result_struct}
-use Rattle.wgsl_core.specs.Forms.{scalar_of}
-use Rattle.wgsl_forms.specs.Concrete.{abstract_result, concrete_of, has_abstract_type}
+use Rattle.wgsl_forms.proofs.Common.{ResultFunction, ResultShape, Layer, array_of, vec_of, mat_of, WgslType, scalar, within, struct, result_struct, scalar_of, abstract_result, concrete_of, has_abstract_type}
 use Rattle.wgsl_forms.specs.Declare.{is_override_type}
 
 either_layer : (b : Bool) (l k : Layer) (t u : WgslType) → false ≡ is_override_type (cond b (within l t) (within k u))

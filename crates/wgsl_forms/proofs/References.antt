@@ -1,13 +1,6 @@
 -- References to what is formed from a type in memory.
 use Rattle.std.proofs.Common.{◌≡◌, Option, Some, None, cond, is_some, refl}
-use Rattle.wgsl_syntax.specs.declared.address.AddressSpace.{AddressSpace}
-use Rattle.wgsl_syntax.specs.declared.address.AccessMode.{AccessMode}
-use Rattle.wgsl_rules.specs.types.Types.{WgslType}
-use Rattle.wgsl_forms.specs.Load.{loaded}
-use Rattle.wgsl_forms.specs.Memory.{in_memory}
-use Rattle.wgsl_forms.specs.Views.{referent_of, viewed}
-use Rattle.wgsl_forms.specs.declared.form.Referent.{Referent}
-use Rattle.wgsl_forms.specs.declared.form.Referent.TheVariants.{Whole}
+use Rattle.wgsl_forms.proofs.Common.{AddressSpace, AccessMode, WgslType, loaded, in_memory, referent_of, viewed, Referent, Whole}
 use Rattle.wgsl_forms.specs.internal.References.{reference_to, loaded_in}
 
 pub refers : (m : Option (AddressSpace × AccessMode)) (r : Referent) (t : WgslType) → viewed (reference_to m r) t ≡ in_memory m t

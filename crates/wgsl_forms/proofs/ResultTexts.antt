@@ -1,16 +1,8 @@
 -- The texts of result structs.
 use Rattle.std.proofs.Common.{◌≡◌, ℕ, List, Some, refl, sym, ap, ◌∙◌}
-use Rattle.wgsl_syntax.specs.ResultStruct.{result_name}
-use Rattle.wgsl_syntax.specs.declared.result_struct.ResultFunction.{ResultFunction}
-use Rattle.wgsl_syntax.specs.declared.result_struct.ResultFunction.TheVariants.{Frexp}
-use Rattle.wgsl_syntax.specs.declared.result_struct.ResultShape.{ResultShape}
+use Rattle.wgsl_forms.proofs.Common.{result_name, ResultFunction, Frexp, ResultShape, Members, struct, result_struct, wgsl_spelling, concrete_of, concrete_result, abstract_result, in_f32}
 use Rattle.wgsl_syntax.specs.declared.result_struct.ResultShape.TheVariants as shape
 use Rattle.wgsl_syntax.specs.declared.result_struct.ResultPrecision.TheVariants as precision
-use Rattle.wgsl_rules.specs.types.Types.{Members, struct}
-use Rattle.wgsl_rules.specs.types.ResultStructs.{result_struct}
-use Rattle.wgsl_rules.specs.types.Spelling.{wgsl_spelling}
-use Rattle.wgsl_forms.specs.Concrete.{concrete_of, concrete_result, abstract_result}
-use Rattle.wgsl_forms.specs.internal.Results.{in_f32}
 
 by_cases : (f : ResultFunction) (s : ResultShape) → result_name (in_f32 (f, s)) ≡ wgsl_spelling (result_struct f s precision.F32)
 unfolding result_struct

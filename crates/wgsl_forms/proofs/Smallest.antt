@@ -1,9 +1,6 @@
 -- The members of the smallest struct, the last apart.
 use Rattle.std.proofs.Common.{◌≡◌, List, [], ◌∷◌, ◌++◌, map, refl, sym, ap, ◌∙◌}
-use Rattle.wgsl_rules.specs.types.Types.{member}
-use Rattle.wgsl_core.specs.View.{Member, members_of, member_view}
-use Rattle.wgsl_core.specs.internal.View.{members_view}
-use Rattle.wgsl_core.specs.declared.ty.StructMemberType.{StructMemberType}
+use Rattle.wgsl_forms.proofs.Common.{member, Member, members_of, member_view, members_view, StructMemberType}
 use Rattle.wgsl_forms.specs.Layout.{smallest_members, with_one_element}
 
 abbrev smallest : Member → Member

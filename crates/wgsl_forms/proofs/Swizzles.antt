@@ -1,16 +1,7 @@
 -- A swizzle of a reference loads as the type that is shown of it.
-use Rattle.std.proofs.Common.{◌≡◌, ◌↔◌, ◌∙◌, ℕ, List, [], ◌∷◌, Bool, true, false, IsTrue, ◌&&◌, cond, Option, Some, None, refl, sym, ap, subst}
-use Rattle.std.specs.Prelude.{Result, Ok, Err, option_map}
-use Rattle.wgsl_rules.specs.types.Types.{vec_of, WgslType, within, struct, vec, pointer, reference}
-use Rattle.wgsl_rules.specs.standard.Choice.{Operand}
-use Rattle.wgsl_forms.specs.Expressions.{Expression, part_of, shown_type, value_from}
-use Rattle.wgsl_forms.specs.Laws.{SwizzlesLoad}
-use Rattle.wgsl_forms.specs.Load.{is_loadable, loaded, may_read}
+use Rattle.std.proofs.Common.{◌≡◌, ◌↔◌, ◌∙◌, ℕ, List, [], ◌∷◌, Bool, true, false, IsTrue, ◌&&◌, cond, Option, Some, None, refl, sym, ap, subst, Result, Ok, Err, option_map}
+use Rattle.wgsl_forms.proofs.Common.{vec_of, WgslType, within, struct, vec, pointer, reference, Operand, Expression, part_of, shown_type, value_from, SwizzlesLoad, is_loadable, loaded, may_read, behind, formed_from, is_memory, Refusal, Referent, Whole, Component, Swizzle}
 use Rattle.wgsl_forms.specs.Member.{Part, a_member, a_component, components, are_components, are_distinct, are_several, expression_of_part, loaded_components, member_named, part_named, part_of_letters}
-use Rattle.wgsl_forms.specs.Memory.{behind, formed_from, is_memory}
-use Rattle.wgsl_forms.specs.Refusals.{Refusal}
-use Rattle.wgsl_forms.specs.declared.form.Referent.{Referent}
-use Rattle.wgsl_forms.specs.declared.form.Referent.TheVariants.{Whole, Component, Swizzle}
 
 -- several components are those of a vector of the same components
 

@@ -1,23 +1,16 @@
 -- The result of an operator is a scalar, a vector or a matrix.
-use Rattle.std.proofs.Common.{◌≡◌, ℕ, List, [], ◌∷◌, Option, Some, Bool, true, false, refl, sym, subst, zero, suc}
-use Rattle.std.specs.Prelude.{option_map, slice_get, slice_index_or, ◌&&◌}
+use Rattle.std.proofs.Common.{◌≡◌, ℕ, List, [], ◌∷◌, Option, Some, Bool, true, false, refl, sym, subst, zero, suc, option_map, slice_get, slice_index_or, ◌&&◌}
 use Rattle.std.proofs.lemmas.Option.{get_or_from_slice_get}
-use Rattle.wgsl_syntax.specs.declared.operator.BinaryOperator.{BinaryOperator}
+use Rattle.wgsl_forms.proofs.Common.{BinaryOperator, Scalar, WgslType, IsStandardAnswer, Operand, IsChosen, binary_overloads, answer_at}
 use Rattle.wgsl_syntax.specs.declared.operator.BinaryOperator.TheVariants as operators
 use Rattle.wgsl_syntax.specs.declared.overload.Dimensions.{Dimensions}
-use Rattle.wgsl_syntax.specs.declared.scalar.Scalar.{Scalar}
 use Rattle.wgsl_syntax.specs.declared.overload.Substitution.{Substitution}
 use Rattle.wgsl_syntax.specs.declared.overload.Overload.{Overload}
 use Rattle.wgsl_syntax.specs.declared.overload.Pattern.TheVariants as patterns
 use Rattle.wgsl_syntax.specs.declared.overload.Returns.{Returns}
 use Rattle.wgsl_syntax.specs.declared.overload.Returns.TheVariants.{Gives}
-use Rattle.wgsl_rules.specs.types.Types.{WgslType}
-use Rattle.wgsl_rules.specs.standard.Answers.{IsStandardAnswer}
-use Rattle.wgsl_rules.specs.standard.Choice.{Operand, IsChosen}
-use Rattle.wgsl_rules.specs.standard.Operators.{binary_overloads}
 use Rattle.wgsl_rules.specs.standard.Overloads.{result_of, result_in, type_with}
 use Rattle.wgsl_forms.specs.internal.Values.{result_value, value_returned}
-use Rattle.wgsl_standard.proofs.StandardAnswers.{answer_at}
 
 abbrev is_value : Returns → Bool
 is_value (Gives (patterns.Value s e)) = true

@@ -1,22 +1,24 @@
--- Every request has an answer.
-use Rattle.std.proofs.Common.{ℕ, ◌≡◌, List, Option, Some, None, refl, inl, inr}
-use Rattle.wgsl_rules.specs.types.Types.{WgslType, Members}
-use Rattle.wgsl_syntax.specs.declared.rules.RuleSet.{RuleSet}
+-- Every request has an answer, so a text has one outcome and one reply, and an input prints one text.
+use Rattle.wgsl_laws.proofs.Common.{ℕ, ◌≡◌, List, Option, Some, None, refl, inl, inr, WgslType, Members, RuleSet, types_of, list_fits, WgslCall, ReplyText}
+use Rattle.wgsl_laws.proofs.Common.{IsReplyTo, one_to_request, [], ◌∷◌, AllZip, list_all, IsReplyToLine, one_line_reply}
 use Rattle.wgsl_standard.specs.Callees.{unknown_name}
 use Rattle.wgsl_standard.specs.Lines.{lines_named}
 use Rattle.wgsl_requests.specs.Answers.{Answers, WgslAnswer, WgslLayout, a_number, a_size, a_common_type, a_type, a_value, some_offsets, a_layout, a_type_of, a_resolution_of, some_lines, a_form_type, a_fit, rank_is, common_is, unary_is, binary_is, size_is, offsets_are, layout_is, ctor_is, call_is, type_of_is, resolution_of_is, explanation_of_is, unknown_is, overloads_of_are, form_is, fit_is}
-use Rattle.wgsl_rules.specs.standard.Choice.{types_of}
-use Rattle.wgsl_forms.specs.Lists.{list_fits}
-use Rattle.wgsl_requests.specs.Calls.{WgslCall}
 use Rattle.wgsl_requests.specs.Requests.{WgslRequest, rank, common, unary, binary, size, offsets, layout, ctor, call, type_of, resolution_of, explanation_of, overloads_of, form_of, fit_of}
-use Rattle.wgsl_requests.proofs.OneAnswer.{one_form_type}
-use Rattle.wgsl_requests.proofs.OneOverloaded.{one_explanation, one_resolution, one_type}
+use Rattle.wgsl_requests.proofs.OneAnswer.{one_form_type, one_explanation, one_resolution, one_type}
 use Rattle.wgsl_laws.proofs.Calls.{a_call}
 use Rattle.wgsl_laws.proofs.Constructors.{a_constructor}
-use Rattle.wgsl_laws.proofs.Conversions.{a_rank, a_received}
-use Rattle.wgsl_laws.proofs.Operators.{a_binary, a_unary}
-use Rattle.wgsl_laws.proofs.Sizes.{exact_alignment, exact_size}
-use Rattle.wgsl_laws.proofs.Structs.{layout_or_cause, offsets_or_cause}
+use Rattle.wgsl_laws.proofs.Operators.{a_rank, a_received, a_binary, a_unary}
+use Rattle.wgsl_laws.proofs.Sizes.{exact_alignment, exact_size, layout_or_cause, offsets_or_cause}
+use Rattle.wgsl_requests.proofs.HasOne.{HasOne}
+use Rattle.wgsl_requests.proofs.OneReply.{EachAnswered}
+use Rattle.wgsl_expressions.specs.Outcomes.{Outcome}
+use Rattle.wgsl_expressions.specs.Scopes.{Scope}
+use Rattle.wgsl_expressions.specs.Typing.{IsTyped}
+use Rattle.wgsl_expressions.proofs.OneOutcome.{one_outcome}
+use Rattle.std.proofs.Common.{Bool}
+use Rattle.wgsl_lines.specs.Output.{Prints, is_readable, lines_of, printed_from}
+use Rattle.wgsl_lines.proofs.OneText.{one_text}
 
 abbrev pub Answered : WgslRequest → Type 0
 Answered request = (a : WgslAnswer) × Answers request a
@@ -57,3 +59,29 @@ some_answer (explanation_of c) = some_explanation c (unknown_name c.callee) refl
 some_answer (overloads_of name) = (some_lines (lines_named name), overloads_of_are (lines_named name) refl)
 some_answer (form_of f) = let r = (one_form_type f).some tt in (a_form_type r.0, form_is r.0 r.1)
 some_answer (fit_of taker xs ts) = let r = list_fits taker ts (types_of xs) in (a_fit r, fit_is r refl)
+
+abbrev Only : {A : Type 0} → (A → Type 0) → Type 0
+Only {A} R = (r : A) × R r × ((other : A) → R other → other ≡ r)
+
+only : {A : Type 0} {R : A → Type 0} → HasOne EachAnswered R → Only R
+only one = let r = one.some some_answer in (r.0, r.1, λ other is. one.once other r.0 is r.1)
+
+pub only_outcome : (scope : Scope) (text : List ℕ) → (r : Option Outcome) × IsTyped scope text r × ((other : Option Outcome) → IsTyped scope text other → other ≡ r)
+only_outcome scope text = only (one_outcome scope text)
+
+pub only_reply : (rules : RuleSet) (bytes : List ℕ) → (reply : ReplyText) × IsReplyTo rules bytes reply × ((other : ReplyText) → IsReplyTo rules bytes other → other ≡ reply)
+only_reply rules bytes = only (one_to_request rules bytes)
+
+some_replies : (rules : RuleSet) (lines : List (List ℕ)) → (replies : List ReplyText) × AllZip (IsReplyToLine rules) lines replies
+some_replies rules [] = ([], tt)
+some_replies rules (line ∷ lines) = let r = (one_line_reply rules line).some some_answer in let rs = some_replies rules lines in (r.0 ∷ rs.0, (r.1, rs.1))
+
+-- exactly one text, with one answer to whether every line is readable
+pub only_text : (rules : RuleSet) (input : List ℕ) → (text : List ℕ) × (readable : Bool) × Prints rules input text readable
+    × ((other : List ℕ) (all : Bool) → Prints rules input other all → (other ≡ text) × (all ≡ readable))
+only_text rules input =
+    let rs = some_replies rules (lines_of input) in
+    let text = printed_from 1 rs.0 in
+    let readable = list_all is_readable rs.0 in
+    let prints : Prints rules input text readable = record { replies = rs.0; each = rs.1; text_is = refl; readable_is = refl } in
+    (text, readable, prints, λ other all more. one_text rules input other text all readable more prints)

@@ -1,37 +1,24 @@
 -- What a built-in function returns, or the refusal of its call.
-use Rattle.std.proofs.Common.{◌≡◌, List, [], ◌∷◌, Option, Some, None, Result, Ok, Err, codes, option_map, refl, inl, inr}
+use Rattle.wgsl_laws.proofs.Common.{◌≡◌, List, [], ◌∷◌, Option, Some, None, Result, Ok, Err, codes, option_map, refl, inl, inr, option_and_then, ℕ_discrete}
+use Rattle.wgsl_laws.proofs.Common.{Shape, dimensions, vec_of, WgslType, scalar, within, vec, inner_of, IsNumericOrVector, result_struct, Parameter, Signature}
+use Rattle.wgsl_laws.proofs.Common.{concretized, is_abstract, Refusal, signature, IsBitcastTemplate, some_common, both}
 use Rattle.std.specs.Prelude.{IsSome}
 use Rattle.std.proofs.Math.Bool.{Bool-discrete}
-use Rattle.std.specs.Option.{option_and_then}
-use native.Mathlib.Decide.{ℕ_discrete}
 use Rattle.wgsl_syntax.specs.declared.call.Condition.{Condition}
 use Rattle.wgsl_syntax.specs.declared.call.Condition.TheVariants.{EqualLengths, SameAbstractness}
 use Rattle.wgsl_syntax.specs.declared.call.ReturnType.{ReturnType}
 use Rattle.wgsl_syntax.specs.declared.call.ReturnType.TheVariants.{Of, Concrete, AsLong, InVector, Transposed, TextureSize, ResultOf, ExchangeResult, RayIntersection, HitPositions, NoValue, ByTemplate}
 use Rattle.wgsl_syntax.specs.declared.call.Row.{Row}
 use Rattle.wgsl_syntax.specs.declared.call.Row.TheVariants.{Takes, TakesAtLeast, TakesWhere, TakesWithTemplate}
-use Rattle.wgsl_syntax.specs.declared.call.Shape.{Shape}
 use Rattle.wgsl_syntax.specs.declared.call.Source.{Source}
 use Rattle.wgsl_syntax.specs.declared.call.Source.TheVariants.{Argument, Inner, InnerOfInner, Common, InnerOfCommon, CommonOfThree, CommonOfInner, The, SampledAs, Channel}
 use Rattle.wgsl_syntax.specs.declared.result_struct.ResultFunction.{ResultFunction}
-use Rattle.wgsl_syntax.specs.TextureKind.{dimensions}
-use Rattle.wgsl_rules.specs.types.Types.{vec_of, WgslType, scalar, within, vec}
-use Rattle.wgsl_rules.specs.types.Inner.{inner_of}
-use Rattle.wgsl_rules.specs.types.Kinds.{IsNumericOrVector}
-use Rattle.wgsl_rules.specs.types.ResultStructs.{result_struct}
-use Rattle.wgsl_rules.specs.types.Signatures.{Parameter, Signature}
-use Rattle.wgsl_rules.specs.conversion.Concrete.{concretized, is_abstract}
-use Rattle.wgsl_rules.specs.errors.Refusals.{Refusal, signature}
 use Rattle.wgsl_rules.specs.calls.Answers.{IsAnswerOf, IsCallAnswer}
 use Rattle.wgsl_rules.specs.calls.ResultTypes.{exchange_struct, ray_intersection_struct, hit_positions_type, size_type, transposed_of}
 use Rattle.wgsl_rules.specs.calls.Rows.{AllAre, BeginAs, Fits, HaveEqualLengths, Holds, IsCommonOf, IsFromTemplate, IsResultFor, IsReturnType, IsSource, channel_in, first, given, return_type_of, sampled_in, second, shapes_of, texture_in, third, vector_like}
 use Rattle.wgsl_rules.specs.calls.Table.{call_table, rows_named}
-use Rattle.wgsl_rules.specs.templates.Templates.{IsBitcastTemplate}
-use Rattle.wgsl_rules.proofs.conversion.Commons.{some_common}
-use Rattle.wgsl_rules.proofs.types.Equality.{both}
 use Rattle.wgsl_laws.proofs.Constructors.{a_template}
-use Rattle.wgsl_laws.proofs.Deciders.{all_three, dec_numeric_or_vector}
-use Rattle.wgsl_laws.proofs.Shapes.{dec_fraction, dec_is}
+use Rattle.wgsl_laws.proofs.Shapes.{all_three, dec_numeric_or_vector, dec_fraction, dec_is}
 
 -- Whether a row takes a call
 

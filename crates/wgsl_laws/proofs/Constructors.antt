@@ -1,24 +1,14 @@
 -- What a constructor makes, or its refusal.
-use Rattle.std.proofs.Common.{◌≡◌, ℕ, ◌*◌, ◌⊎◌, List, [], ◌∷◌, Option, Some, None, Result, Ok, Err, codes, length, map, ok_or, refl, inl, inr}
-use native.Mathlib.Decide.{ℕ_discrete}
-use Rattle.wgsl_syntax.specs.declared.scalar.Scalar.TheVariants.{AbstractInt}
-use Rattle.wgsl_rules.specs.types.Types.{WgslType, scalar, array, vec, mat}
-use Rattle.wgsl_rules.specs.types.Kinds.{IsScalar, IsScalarOrVector, IsFloatScalar}
-use Rattle.wgsl_rules.specs.types.Inner.{inner_of}
-use Rattle.wgsl_rules.specs.types.Signatures.{Parameter, Signature, of_type}
-use Rattle.wgsl_rules.specs.conversion.Concrete.{IsAbstract}
-use Rattle.wgsl_rules.specs.errors.Refusals.{Refusal, builtin, conversion, param_count, signature, template_args}
-use Rattle.wgsl_rules.specs.Headline.{Receives}
-use Rattle.wgsl_rules.specs.templates.Templates.{IsTemplateOf, IsVecTemplate, IsMatTemplate, array_template}
+use Rattle.wgsl_laws.proofs.Common.{◌≡◌, ℕ, ◌*◌, ◌⊎◌, List, [], ◌∷◌, Option, Some, None, Result, Ok, Err, codes, length, map, ok_or, refl, inl, inr, ℕ_discrete}
+use Rattle.wgsl_laws.proofs.Common.{AbstractInt, WgslType, scalar, array, vec, mat, IsScalar, IsScalarOrVector, IsFloatScalar, inner_of, Parameter, Signature}
+use Rattle.wgsl_laws.proofs.Common.{of_type, IsAbstract, Refusal, builtin, conversion, param_count, signature, template_args, Receives, IsTemplateOf}
+use Rattle.wgsl_laws.proofs.Common.{IsVecTemplate, IsMatTemplate, array_template, some_left_common, receives_nil, receives_cons, dec_converts, both}
 use Rattle.wgsl_rules.specs.constructors.Steps.{Either, Then, ThenCommon, IsCounted, IsFirstStuck}
 use Rattle.wgsl_rules.specs.constructors.Vectors.{BringsComponents, all_components, no_components, IsTypedVectorOfOne, IsTypedVectorOfSeveral, IsTypedVector, IsUntypedVectorOfOne, IsUntypedVectorOfSeveral, IsUntypedVector, IsVectorCall}
 use Rattle.wgsl_rules.specs.constructors.Matrices.{IsMatrixOf, IsTypedMatrixOf, IsTypedMatrixOfOne, IsTypedMatrix, IsUntypedMatrixOf, IsUntypedMatrixOfOne, IsUntypedMatrix, IsMatrixCall, component_of, incompatible_matrix, no_columns}
 use Rattle.wgsl_rules.specs.constructors.Constructors.{Constructor, makes_array, makes_scalar, makes_vector, makes_matrix, IsTypedArray, IsArrayCall, IsBuilt, IsConstructorAnswer, constructor_of, scalar_call}
-use Rattle.wgsl_rules.proofs.conversion.Commons.{some_left_common, receives_nil, receives_cons}
 use Rattle.wgsl_rules.proofs.conversion.Converted.{what_converted_inside}
-use Rattle.wgsl_rules.proofs.conversion.Order.{dec_converts}
-use Rattle.wgsl_rules.proofs.types.Equality.{both}
-use Rattle.wgsl_laws.proofs.Deciders.{dec_abstract, dec_all, dec_float_scalar, dec_not, dec_scalar, dec_scalar_or_vector}
+use Rattle.wgsl_laws.proofs.Shapes.{dec_abstract, dec_all, dec_float_scalar, dec_not, dec_scalar, dec_scalar_or_vector}
 
 abbrev Answer : Type 0
 Answer = Result WgslType Refusal

@@ -1,11 +1,7 @@
-pub mod Deciders
-pub mod Conversions
+pub mod Common
 pub mod Sizes
-pub mod Structs
 pub mod Operators
 pub mod Constructors
 pub mod Shapes
 pub mod Calls
 pub mod Answered
-pub mod Replied
-pub mod Printed

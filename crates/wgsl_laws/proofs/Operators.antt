@@ -1,26 +1,44 @@
--- What an operator returns, or its refusal.
-use Rattle.std.proofs.Common.{◌≡◌, ℕ, ◌⊎◌, Option, Some, None, Result, Ok, Err, refl, sym, subst, inl, inr}
-use native.Mathlib.Decide.{ℕ_discrete}
-use Rattle.wgsl_syntax.specs.declared.address.AddressSpace.TheVariants.{Handle}
-use Rattle.wgsl_syntax.specs.declared.scalar.Scalar.TheVariants.{Bool, U32}
+-- The rank of a conversion, the common type of a list, and what an operator returns, or its refusal.
+use Rattle.wgsl_laws.proofs.Common.{◌≡◌, ℕ, List, [], ◌∷◌, Option, Some, None, subst, WgslType, IsLeftCommon, Receives, left_common_once, some_left_common}
+use Rattle.wgsl_laws.proofs.Common.{receives_nil, receives_cons, receives_head, receives_tail, dec_converts, ◌⊎◌, Result, Ok, Err, refl, sym, inl, inr}
+use Rattle.wgsl_laws.proofs.Common.{ℕ_discrete, Handle, Bool, U32, vec_of, mat_of, scalar, within, pointer, reference, vec, mat, Refusal, unary, binary}
+use Rattle.wgsl_laws.proofs.Common.{ptr_handle, IsCommon, some_common, both, same_type}
+use Rattle.wgsl_rules.specs.conversion.Conversion.{Converts}
+use Rattle.wgsl_rules.specs.layout.Layout.{IsExactly}
+use Rattle.wgsl_requests.specs.Answers.{IsReceivedCommon}
+use Rattle.wgsl_rules.proofs.conversion.Equations.{rank, rank_converts}
 use Rattle.wgsl_syntax.specs.declared.operator.BinaryOperator.{BinaryOperator}
 use Rattle.wgsl_syntax.specs.declared.operator.BinaryOperator.TheVariants.{ShortCircuitOr, ShortCircuitAnd, Addition, Subtraction, Multiplication, Division, Remainder, Equality, Inequality, LessThan, LessThanEqual, GreaterThan, GreaterThanEqual, BitwiseOr, BitwiseAnd, BitwiseXor, ShiftLeft, ShiftRight}
 use Rattle.wgsl_syntax.specs.declared.operator.UnaryOperator.{UnaryOperator}
 use Rattle.wgsl_syntax.specs.declared.operator.UnaryOperator.TheVariants.{LogicalNegation, Negation, BitwiseComplement, AddressOf, Indirection}
-use Rattle.wgsl_rules.specs.types.Types.{vec_of, mat_of, WgslType, scalar, within, pointer, reference, vec, mat}
-use Rattle.wgsl_rules.specs.errors.Refusals.{Refusal, unary, binary, ptr_handle}
-use Rattle.wgsl_rules.specs.conversion.Common.{IsCommon}
 use Rattle.wgsl_rules.specs.operators.Answers.{BinaryCandidate, HasCandidate, IsUnaryAnswer, IsOperatorAnswer}
 use Rattle.wgsl_rules.specs.operators.Candidates.{IsArithmetic, IsSum, IsComparison, IsLogical, IsBitwise, IsOrAnd, IsShift}
 use Rattle.wgsl_rules.specs.operators.Rows.{IsRow, scalar_row, vector_row, scalar_vector_row, vector_scalar_row, matrix_row, scalar_matrix_row, matrix_scalar_row, vector_matrix_row, matrix_vector_row, matrix_matrix_row, comparison_row, comparison_vector_row, logical_row, bools_row, bit_row, shift_row, shift_vector_row}
 use Rattle.wgsl_rules.specs.operators.UnaryRows.{not_row, not_vector_row, negation_row, complement_row, address_row, indirection_row}
-use Rattle.wgsl_rules.proofs.conversion.Commons.{some_common}
-use Rattle.wgsl_rules.proofs.conversion.Order.{dec_converts}
 use Rattle.wgsl_rules.proofs.operators.Groups.{Fits, IsShifted, elements}
 use Rattle.wgsl_rules.proofs.operators.Rows.{unfit, elements_apart, not_compared, compared_apart, not_logical, no_bits, bits_apart, not_shifted}
 use Rattle.wgsl_rules.proofs.operators.Unary.{not_negated, not_opposed, not_complemented, no_handle, not_addressed, not_pointed}
-use Rattle.wgsl_rules.proofs.types.Equality.{both, same_type}
-use Rattle.wgsl_laws.proofs.Deciders.{all_three, dec_integer, dec_integer_or_vector, either}
+use Rattle.wgsl_laws.proofs.Shapes.{all_three, dec_integer, dec_integer_or_vector, either}
+
+pub a_rank : (t u : WgslType) → (w : Option ℕ) × IsExactly w (Converts t u)
+a_rank t u = (rank t u, rank_converts t u)
+
+pub dec_receives : (u : WgslType) (ts : List WgslType) → Dec (Receives u ts)
+dec_receives u [] = yes (receives_nil u)
+dec_receives u (t ∷ ts) = elim (dec_converts t u) [
+  | no n ↦ no (λ h. n (receives_head u t ts h))
+  | yes c ↦ elim (dec_receives u ts) [ no n ↦ no (λ h. n (receives_tail u t ts h)) | yes h ↦ yes (receives_cons u t ts c h) ]
+]
+
+pub a_received : (ts : List WgslType) → (c : Option WgslType) × IsReceivedCommon ts c
+a_received ts = let c = some_left_common ts in received c.0 c.1
+  where
+    received : (c : Option WgslType) → IsLeftCommon ts c → (c : Option WgslType) × IsReceivedCommon ts c
+    received None h = (None, λ t k r. let e : None ≡ Some t = left_common_once ts None (Some t) h k in absurd (cc e))
+    received (Some t) h = elim (dec_receives t ts) [
+      | yes r ↦ (Some t, (h, r))
+      | no n ↦ (None, λ u k r. let e : Some u ≡ Some t = left_common_once ts (Some u) (Some t) k h in let same : u ≡ t = cc e in n (subst (λ u. Receives u ts) same r))
+    ]
 
 -- Unary operators
 

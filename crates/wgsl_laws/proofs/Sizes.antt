@@ -1,21 +1,16 @@
--- The size and the alignment of a type, and the layout of a struct.
-use Rattle.std.proofs.Common.{◌≡◌, ℕ, ◌*◌, ◌<◌, ◌≤◌, ◌^◌, ◌⊎◌, inl, inr, zero, suc, List, [], ◌∷◌, Option, Some, None, refl, ap, subst, ◌∙◌, arith}
+-- The size and the alignment of a type, and the offsets and the layout of a struct, or a cause to have none.
+use Rattle.wgsl_laws.proofs.Common.{◌≡◌, ℕ, ◌*◌, ◌<◌, ◌≤◌, ◌^◌, ◌⊎◌, inl, inr, zero, suc, List, [], ◌∷◌, Option, Some, None, refl, ap, subst, ◌∙◌, arith, All}
+use Rattle.wgsl_laws.proofs.Common.{cases_lt, ℕ_discrete, RuleSet, Scalar, Bool, AbstractInt, AbstractFloat, I32, U32, F32, F16, I64, U64, F64, WgslType}
+use Rattle.wgsl_laws.proofs.Common.{scalar, struct, atomic, Members, no_members, member, array, vec, mat, Aligned, end_of, least_total, never_both, starts}
+use Rattle.wgsl_laws.proofs.Common.{laid, no_less, no_earlier, all_aligned}
 use Rattle.std.specs.Int.{next_multiple_of}
-use Rattle.std.specs.List.{All}
-use Rattle.std.proofs.lemmas.Bool.{cases_lt}
 use Rattle.std.proofs.lemmas.Option.{same_Some}
-use native.Mathlib.Decide.{ℕ_discrete}
-use Rattle.wgsl_syntax.specs.declared.rules.RuleSet.{RuleSet}
 use Rattle.wgsl_syntax.specs.declared.rules.RuleSet.TheVariants.{Ported, Standard}
-use Rattle.wgsl_syntax.specs.declared.scalar.Scalar.{Scalar}
-use Rattle.wgsl_syntax.specs.declared.scalar.Scalar.TheVariants.{Bool, AbstractInt, AbstractFloat, I32, U32, F32, F16, I64, U64, F64}
-use Rattle.wgsl_rules.specs.types.Types.{WgslType, scalar, struct, atomic, Members, no_members, member, array, vec, mat}
 use Rattle.wgsl_rules.specs.layout.Placement.{MemberLayout, greatest, greatest_align, IsLeastTotal, IsPlacement}
-use Rattle.wgsl_rules.specs.layout.Layout.{IsScalarSize, IsAtomicSize, IsTimes, IsRoundedUp, IsStride, IsArraySize, IsAlignOfThreeBy, IsVectorAlignBy, IsGiven, IsStructSize, HasSizeBy, HasAlignmentBy, HaveLayoutsBy, HaveAlignmentsBy, IsExactly, SomeUnknownBy, SomeZeroAlignBy, HasNoSizeBy, unknown, zero_align, empty, too_large}
+use Rattle.wgsl_rules.specs.layout.Layout.{IsScalarSize, IsAtomicSize, IsTimes, IsRoundedUp, IsStride, IsArraySize, IsAlignOfThreeBy, IsVectorAlignBy, IsGiven, IsStructSize, HasSizeBy, HasAlignmentBy, HaveLayoutsBy, HaveAlignmentsBy, IsExactly, SomeUnknownBy, SomeZeroAlignBy, HasNoSizeBy, unknown, zero_align, empty, too_large, AreOffsetsBy, IsStructLayoutBy}
 use Rattle.wgsl_rules.proofs.layout.OneSize.{IsOne, one_vector_align, one_size, one_align, one_layouts, one_stride}
-use Rattle.wgsl_rules.proofs.layout.Placing.{Aligned, end_of, least_total}
 use Rattle.wgsl_rules.proofs.layout.Steps.{rounded_up, one_rounded}
-use Rattle.wgsl_rules.proofs.layout.StructSizes.{never_both}
+use Rattle.wgsl_rules.proofs.layout.StructAligns.{sized_is_aligned}
 
 -- some number has the property, or none has
 abbrev pub Finds : (ℕ → Type 0) → Type 0
@@ -128,12 +123,12 @@ some_alignments rules (member name t size align ms) (s, a, h) = both a (some_ali
         none_after none [] k = k
         none_after none (x ∷ xs) k = none xs k.1
 
-all_aligned : (rules : RuleSet) (ms : Members) (ls : List MemberLayout) → HaveLayoutsBy rules ms ls → Aligned ls ⊎ SomeZeroAlignBy rules ms
-all_aligned rules no_members [] h = inl tt
-all_aligned rules no_members (l ∷ ls) h = absurd h
-all_aligned rules (member name t size align ms) [] h = absurd h
-all_aligned rules (member name t size align ms) (l ∷ ls) h = elim (cases_lt 0 l.align) [
-  | inl pos ↦ elim (all_aligned rules ms ls h.2) [ inl al ↦ inl (pos, al) | inr z ↦ inr (inr z) ]
+aligned_or_zero : (rules : RuleSet) (ms : Members) (ls : List MemberLayout) → HaveLayoutsBy rules ms ls → Aligned ls ⊎ SomeZeroAlignBy rules ms
+aligned_or_zero rules no_members [] h = inl tt
+aligned_or_zero rules no_members (l ∷ ls) h = absurd h
+aligned_or_zero rules (member name t size align ms) [] h = absurd h
+aligned_or_zero rules (member name t size align ms) (l ∷ ls) h = elim (cases_lt 0 l.align) [
+  | inl pos ↦ elim (aligned_or_zero rules ms ls h.2) [ inl al ↦ inl (pos, al) | inr z ↦ inr (inr z) ]
   | inr low ↦ inr (inl (subst (λ (x : ℕ). IsGiven align (HasAlignmentBy rules t) x) (let z : l.align ≡ 0 = omega arith in z) h.1))
 ]
 
@@ -143,10 +138,10 @@ each_aligned (l ∷ ls) al zero d lt = al.0
 each_aligned (l ∷ ls) al (suc k) d lt = each_aligned ls al.1 k d (omega arith)
 
 -- the size of a struct, if its members have layouts with positive alignments, or a cause to have none
-sized : (rules : RuleSet) (ms : Members) (ls : List MemberLayout) → HaveLayoutsBy rules ms ls → Aligned ls → ((n : ℕ) × IsStructSize (HaveLayoutsBy rules ms) n) ⊎ HasNoSizeBy rules ms
-sized rules no_members ls h al = inr (empty refl)
-sized rules (member name t size align ms) [] h al = absurd h
-sized rules (member name t size align ms) (l ∷ ls) h al =
+sized_or_cause : (rules : RuleSet) (ms : Members) (ls : List MemberLayout) → HaveLayoutsBy rules ms ls → Aligned ls → ((n : ℕ) × IsStructSize (HaveLayoutsBy rules ms) n) ⊎ HasNoSizeBy rules ms
+sized_or_cause rules no_members ls h al = inr (empty refl)
+sized_or_cause rules (member name t size align ms) [] h al = absurd h
+sized_or_cause rules (member name t size align ms) (l ∷ ls) h al =
     let all = l ∷ ls in
     let total = next_multiple_of (end_of 0 all) (greatest_align all) in
     let least : IsLeastTotal all total = least_total all al (let pos : 0 < l.align = al.0 in omega arith) in
@@ -161,7 +156,7 @@ sized rules (member name t size align ms) (l ∷ ls) h al =
 a_struct_size : (rules : RuleSet) (ms : Members) → AreFound rules ms → ((n : ℕ) × IsStructSize (HaveLayoutsBy rules ms) n) ⊎ HasNoSizeBy rules ms
 a_struct_size rules ms h = elim (some_layouts rules ms h) [
   | inr u ↦ inr (unknown u)
-  | inl ls ↦ elim (all_aligned rules ms ls.0 ls.1) [ inl al ↦ sized rules ms ls.0 ls.1 al | inr z ↦ inr (zero_align z) ]
+  | inl ls ↦ elim (aligned_or_zero rules ms ls.0 ls.1) [ inl al ↦ sized_or_cause rules ms ls.0 ls.1 al | inr z ↦ inr (zero_align z) ]
 ]
 
 mutual
@@ -197,3 +192,41 @@ exact_alignment rules t = exactly (HasAlignmentBy rules t) (one_align rules t) (
 
 pub size_or_cause : (rules : RuleSet) (ms : Members) → ((n : ℕ) × IsStructSize (HaveLayoutsBy rules ms) n) ⊎ HasNoSizeBy rules ms
 size_or_cause rules ms = a_struct_size rules ms (are_found rules ms)
+
+-- each member at the first offset that its alignment allows
+first_offsets : (rules : RuleSet) (ms : Members) (n : ℕ) (s : IsStructSize (HaveLayoutsBy rules ms) n) → AreOffsetsBy rules ms (starts 0 s.layouts)
+first_offsets rules ms n s =
+    let al : Aligned s.layouts = all_aligned s.layouts s.aligned in
+    let z : 0 ≤ 0 = omega arith in
+    record {
+      total = n;
+      sized = s;
+      placed = (laid 0 s.layouts n al (no_less 0 0 s.layouts s.least.0.0 n al z s.least.0.1.0), s.least.0.1.1);
+      least = λ others more placement k. no_earlier 0 0 s.layouts others more al z placement.0 k;
+    }
+
+pub offsets_or_cause : (rules : RuleSet) (ms : Members) → ((offsets : List ℕ) × AreOffsetsBy rules ms offsets) ⊎ HasNoSizeBy rules ms
+offsets_or_cause rules ms = elim (size_or_cause rules ms) [
+  | inl n ↦ inl (starts 0 (n.1).layouts, first_offsets rules ms n.0 n.1)
+  | inr cause ↦ inr cause
+]
+
+-- a layout with any sizes and alignments of the members
+pub record HasLayout (rules : RuleSet) (ms : Members) : Type 0 where
+  pub offsets : List ℕ
+  pub size : ℕ
+  pub align : ℕ
+  pub sized : IsStructSize (HaveLayoutsBy rules ms) size
+  pub layout : IsStructLayoutBy rules ms sized.layouts offsets size align
+
+pub layout_or_cause : (rules : RuleSet) (ms : Members) → HasLayout rules ms ⊎ HasNoSizeBy rules ms
+layout_or_cause rules ms = elim (size_or_cause rules ms) [
+  | inl n ↦ inl (let a = sized_is_aligned rules ms n.0 n.1 in record {
+    offsets = starts 0 (n.1).layouts;
+    size = n.0;
+    align = a.0;
+    sized = n.1;
+    layout = record { members = (n.1).known; placed = first_offsets rules ms n.0 n.1; sized = n.1; aligned = a.1 };
+  })
+  | inr cause ↦ inr cause
+]

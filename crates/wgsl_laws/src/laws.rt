@@ -24,21 +24,21 @@ pub fn no_request_has_two_answers()
 
 /// With the names of a scope, a text has exactly one outcome: it is no expression, or one that has a type or a first part
 /// without one.
-#[tactic(auto, using(crate::proofs::Replied::only_outcome))]
+#[tactic(auto, using(crate::proofs::Answered::only_outcome))]
 pub fn every_text_has_one_outcome()
     ensures { (scope : Scope) (text : List ℕ) → (r : Option Outcome) × IsTyped scope text r
         × ((other : Option Outcome) → IsTyped scope text other → other ≡ r) }
 {}
 
 /// The bytes of a request have exactly one reply, by either set of rules.
-#[tactic(auto, using(crate::proofs::Replied::only_reply))]
+#[tactic(auto, using(crate::proofs::Answered::only_reply))]
 pub fn every_text_has_one_reply()
     ensures { (rules : RuleSet) (bytes : List ℕ) → (reply : ReplyText) × IsReplyTo rules bytes reply
         × ((other : ReplyText) → IsReplyTo rules bytes other → other ≡ reply) }
 {}
 
 /// An input prints exactly one text, with one answer to whether every line is readable.
-#[tactic(auto, using(crate::proofs::Printed::only_text))]
+#[tactic(auto, using(crate::proofs::Answered::only_text))]
 pub fn every_input_prints_one_text()
     ensures { (rules : RuleSet) (input : List ℕ) → (text : List ℕ) × (readable : Bool)
         × Prints rules input text readable

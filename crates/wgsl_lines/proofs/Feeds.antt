@@ -1,11 +1,7 @@
 -- Bytes that are compared with a line feed 16 at a time.
-use Rattle.std.proofs.Common.{◌≡◌, ◌∙◌, ◌+◌, ◌-◌, ◌<◌, ◌≤◌, ◌≢◌, ◌==◌, ◌∷◌, ◌++◌, ℕ, List, All, true, ap, append_assoc, get_or, length-drop, arith, length, not, sym, take, drop}
-use Rattle.std.specs.List.{prefix_len}
-use Rattle.std.specs.Simd.Lanes.{chunk}
-use Rattle.std.proofs.Math.Seq.{take-add}
-use Rattle.std.proofs.lemmas.List.Elements.{All-append}
-use Rattle.std.proofs.lemmas.List.{drop-drop, get_or-take, length-take, take-append-drop, take-take, take_all}
-use Rattle.std.proofs.lemmas.Simd.{length-chunk}
+use Rattle.wgsl_lines.proofs.Common.{◌≡◌, ◌∙◌, ◌+◌, ◌-◌, ◌<◌, ◌≤◌, ◌≢◌, ◌==◌, ◌∷◌, ◌++◌, ℕ, List, All, true, ap, append_assoc, get_or, length-drop, arith}
+use Rattle.wgsl_lines.proofs.Common.{length, not, sym, take, drop, prefix_len, chunk, take-add, All-append, drop-drop, get_or-take, length-take}
+use Rattle.wgsl_lines.proofs.Common.{take-append-drop, take-take, take_all, length-chunk}
 use Rattle.std.proofs.lemmas.List.Sums.{prefix_len-le-length, prefix_len_passes}
 
 -- a byte that is said to be no line feed

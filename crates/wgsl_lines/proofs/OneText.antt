@@ -1,17 +1,9 @@
 -- An input prints at most one text, and what a run has printed when it stops is a beginning of it.
-use Rattle.std.proofs.Common.{◌≡◌, ◌∙◌, ℕ, Bool, List, [], ◌∷◌, ◌++◌, ap, append_assoc, length, refl, subst, sym, take}
-use Rattle.std.proofs.Math.Seq.{take-append_seam}
+use Rattle.wgsl_lines.proofs.Common.{◌≡◌, ◌∙◌, ℕ, Bool, List, [], ◌∷◌, ◌++◌, ap, append_assoc, length, refl, subst, sym, take, take-append_seam, AllZip}
+use Rattle.wgsl_lines.proofs.Common.{list_all, ReplyText, IsReplyToLine, one_line_reply, RunError, Read, Write, Memory, is_readable, lines_of, printed_from}
+use Rattle.wgsl_lines.proofs.Common.{Prints, PrintsFirst, PrintsUntil, PrintsUpTo, number_after, RuleSet}
 use Rattle.std.specs.Io.{StartsWith}
-use Rattle.std.specs.List.{AllZip, list_all}
-use Rattle.wgsl_requests.specs.Replies.{ReplyText}
-use Rattle.wgsl_replies.specs.Replies.{IsReplyToLine}
-use Rattle.wgsl_replies.proofs.OneReply.{one_line_reply}
-use Rattle.wgsl_lines.specs.declared.run.RunError.{RunError}
-use Rattle.wgsl_lines.specs.declared.run.RunError.TheVariants.{Read, Write, Memory}
-use Rattle.wgsl_lines.specs.Output.{is_readable, lines_of, printed_from, Prints, PrintsFirst, PrintsUntil, PrintsUpTo}
-use Rattle.wgsl_lines.specs.Session.{number_after}
-use Rattle.wgsl_lines.proofs.Replies.{printed-append}
-use Rattle.wgsl_syntax.specs.declared.rules.RuleSet.{RuleSet}
+use Rattle.wgsl_lines.proofs.Taken.{printed-append}
 
 module _ (rules : RuleSet) where
   -- the replies to some lines, and to these and more

@@ -1,19 +1,45 @@
 -- A step of a run: a block is answered, the last line is answered, a read failed.
-use Rattle.std.proofs.Common.{◌≡◌, ◌≢◌, ◌∙◌, ℕ, Bool, List, [], ◌∷◌, ◌++◌, Option, Result, Some, None, Ok, Err, ap, append_assoc, refl, string_bytes, subst, sym}
-use Rattle.std.proofs.lemmas.List.{append-nil}
-use Rattle.std.proofs.lemmas.List.Elements.{All-nil}
-use Rattle.std.specs.declared.alloc.AllocError.{AllocError}
-use Rattle.std.specs.Io.KnownBytes.{Appends, Consumes, IsAtEnd, Keeps}
+use Rattle.wgsl_lines.proofs.Common.{◌≡◌, ◌∙◌, ℕ, List, [], ◌++◌, Option, Some, None, ap, append_assoc, drop, sym, take, append-nil, take-append-drop, Appends}
+use Rattle.wgsl_lines.proofs.Common.{Keeps, ◌≢◌, Bool, ◌∷◌, Result, Ok, Err, refl, string_bytes, subst, All-nil, AllocError, Consumes, IsAtEnd, RunError, Read}
+use Rattle.wgsl_lines.proofs.Common.{Write, Memory, Session, Prints, PrintsFirst, PrintsUntil, AnswersLine, HasPrinted, HasStopped, HasTaken, IsAtStart}
+use Rattle.wgsl_lines.proofs.Common.{IsBetween, StopsAfter, RuleSet}
 use Rattle.std.specs.Prelude.{IfErr, IfOk, IfSome, MatchResult, OnErr, OnOk}
-use Rattle.wgsl_lines.specs.declared.run.RunError.{RunError}
-use Rattle.wgsl_lines.specs.declared.run.RunError.TheVariants.{Read, Write, Memory}
-use Rattle.wgsl_lines.specs.declared.run.Session.{Session}
-use Rattle.wgsl_lines.specs.Output.{Prints, PrintsFirst, PrintsUntil}
-use Rattle.wgsl_lines.specs.Session.{AnswersLine, HasPrinted, HasStopped, HasTaken, IsAtStart, IsBetween, StopsAfter}
-use Rattle.wgsl_lines.proofs.Bytes.{appends_more, appends_none}
 use Rattle.wgsl_lines.proofs.OneText.{prints_first}
 use Rattle.wgsl_lines.proofs.Taken.{cut_of_all, cut_of_first, taken_last, taken_none, taken_so_far, until_none}
-use Rattle.wgsl_syntax.specs.declared.rules.RuleSet.{RuleSet}
+
+-- nothing is written
+pub appends_none : (now : Option (List ℕ)) → Appends now now []
+appends_none None = tt
+appends_none (Some held) = sym (append-nil held)
+
+-- one text is written after another
+pub appends_more : (start before now : Option (List ℕ)) (text more : List ℕ) → Appends start before text → Appends before now more → Appends start now (text ++ more)
+appends_more None before now text more a b = tt
+appends_more (Some held) None now text more a b = absurd a
+appends_more (Some held) (Some then') None text more a b = absurd b
+appends_more (Some held) (Some then') (Some new) text more a b = b ∙ (ap (λ t. t ++ more) a ∙ append_assoc held text more)
+
+-- what is held stays
+pub appends_kept : (start before now : Option (List ℕ)) (text : List ℕ) → Appends start before text → Keeps before now → Appends start now text
+appends_kept None before now text a kept = tt
+appends_kept (Some held) None now text a kept = absurd a
+appends_kept (Some held) (Some then') None text a kept = absurd kept
+appends_kept (Some held) (Some then') (Some new) text a kept = kept ∙ a
+
+-- a beginning of the bytes is written, and the rest of them is left
+pub record IsWritten (bytes rest : List ℕ) (start now : Option (List ℕ)) : Type 0 where
+  pub text : List ℕ
+  pub bytes_are : bytes ≡ text ++ rest
+  pub written : Appends start now text
+
+-- some of the rest is written
+pub written_more : (bytes rest : List ℕ) (start before now : Option (List ℕ)) (count : ℕ) → IsWritten bytes rest start before
+    → Appends before now (take count rest) → IsWritten bytes (drop count rest) start now
+written_more bytes rest start before now count w more = record {
+  text = w.text ++ take count rest;
+  bytes_are = w.bytes_are ∙ (ap (λ r. w.text ++ r) (sym (take-append-drop count rest)) ∙ sym (append_assoc w.text (take count rest) (drop count rest)));
+  written = appends_more start before now w.text (take count rest) w.written more;
+}
 
 -- a write failed after a beginning of the answers
 pub record IsCutOff (answers : List ℕ) (before now : Option (List ℕ)) : Type 0 where

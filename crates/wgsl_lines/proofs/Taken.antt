@@ -1,17 +1,112 @@
--- A step of a run: bytes taken, a line answered, answers written.
-use Rattle.std.proofs.Common.{◌≡◌, ◌≢◌, ◌∙◌, ℕ, Bool, true, ◌&&◌, List, [], ◌∷◌, ◌++◌, ap, append_assoc, arith, refl, string_bytes, subst, sym, take}
-use Rattle.std.proofs.lemmas.List.{append-nil, take_all}
-use Rattle.std.proofs.lemmas.List.Elements.{All-append, All-nil}
+-- The lines of an input that comes piece by piece, and a step of a run: bytes taken, a line answered, answers written.
+use Rattle.wgsl_lines.proofs.Common.{◌≡◌, ◌≢◌, ◌∙◌, ℕ, eqb as nat_eq, Bool, true, false, All, List, [], ◌∷◌, ◌++◌, ap, append_assoc, refl, sym, append-nil}
+use Rattle.wgsl_lines.proofs.Common.{All-head, All-tail, lines_of, Ends, zero, suc, ◌<◌, ◌≤◌, nat_le, ◌&&◌, arith, length, length-append, length-take, subst}
+use Rattle.wgsl_lines.proofs.Common.{take, take_all, list_all, long_line, one_line_reply, ReplyText, unreadable, IsReplyToLine, is_readable, next_number}
+use Rattle.wgsl_lines.proofs.Common.{printed, printed_from, number_after, RuleSet, string_bytes, All-append, All-nil, AllZip, Write, Memory, Session, Prints}
+use Rattle.wgsl_lines.proofs.Common.{PrintsLines, PrintsUntil, PrintsUpTo, AnswersLine, HasTaken, IsAtStart, StopsAfter}
+use Rattle.std.proofs.lemmas.Bool.{ne_eqb, leb-true, leb-false}
+use Rattle.wgsl_words.specs.Words.{into_first}
+use Rattle.std.proofs.lemmas.List.Folds.{list_all-append}
 use Rattle.std.proofs.lemmas.Slice.Zip.{all_zipped_more}
-use Rattle.std.specs.List.{AllZip, list_all}
-use Rattle.wgsl_replies.specs.Replies.{IsReplyToLine}
-use Rattle.wgsl_lines.specs.declared.run.RunError.TheVariants.{Write, Memory}
-use Rattle.wgsl_lines.specs.declared.run.Session.{Session}
-use Rattle.wgsl_lines.specs.Output.{is_readable, lines_of, next_number, printed, printed_from, Prints, PrintsLines, PrintsUntil, PrintsUpTo}
-use Rattle.wgsl_lines.specs.Session.{AnswersLine, HasTaken, IsAtStart, StopsAfter}
-use Rattle.wgsl_lines.proofs.Lines.{NoLineFeed, ends_last, ends_line, ends_more, ends_none, lines-some}
-use Rattle.wgsl_lines.proofs.Replies.{number-push, of_cut_first, printed-push, readable-push, take-cut}
-use Rattle.wgsl_syntax.specs.declared.rules.RuleSet.{RuleSet}
+
+abbrev pub NoLineFeed : List ℕ → Type 0
+NoLineFeed bytes = All (λ byte. byte ≢ 10) bytes
+
+head : (byte : ℕ) (bytes : List ℕ) → NoLineFeed (byte ∷ bytes) → nat_eq byte 10 ≡ false
+head byte bytes all = ne_eqb byte 10 (All-head (λ b. b ≢ 10) byte bytes all)
+
+tail : (byte : ℕ) (bytes : List ℕ) → NoLineFeed (byte ∷ bytes) → NoLineFeed bytes
+tail byte bytes all = All-tail (λ b. b ≢ 10) byte bytes all
+
+-- a line, its line feed, and more
+pub lines-line : (line more : List ℕ) → NoLineFeed line → lines_of (line ++ 10 ∷ more) ≡ line ∷ lines_of more
+lines-line [] more all = refl
+lines-line (byte ∷ line) more all = rw (head byte line all) (ap (into_first byte) (lines-line line more (tail byte line all)))
+
+-- the last line
+pub lines-last : (line : List ℕ) → NoLineFeed line → lines_of line ≡ line ∷ []
+lines-last [] all = refl
+lines-last (byte ∷ line) all = rw (head byte line all) (ap (into_first byte) (lines-last line (tail byte line all)))
+
+first_some : (byte : ℕ) (lines : List (List ℕ)) → into_first byte lines ≢ []
+first_some byte [] none = absurd (cc none)
+first_some byte (line ∷ lines) none = absurd (cc none)
+
+-- every input has a line
+pub lines-some : (bytes : List ℕ) → lines_of bytes ≢ []
+lines-some [] none = absurd (cc none)
+lines-some (byte ∷ bytes) none = test (nat_eq byte 10) refl
+  where
+    test : (v : Bool) → nat_eq byte 10 ≡ v → ⊥
+    test true e = let some : [] ∷ lines_of bytes ≡ [] = rw e at none in absurd (cc some)
+    test false e = let some : into_first byte (lines_of bytes) ≡ [] = rw e at none in first_some byte (lines_of bytes) some
+
+-- before the first byte
+pub ends_none : Ends [] [] []
+ends_none = λ more. refl
+
+-- more bytes of the line
+pub ends_more : (bytes begun more : List ℕ) (ended : List (List ℕ)) → Ends bytes ended begun → Ends (bytes ++ more) ended (begun ++ more)
+ends_more bytes begun more ended ends = λ rest.
+    ap lines_of (append_assoc bytes more rest) ∙ (ends (more ++ rest) ∙ ap (λ b. ended ++ lines_of b) (sym (append_assoc begun more rest)))
+
+-- the line feed
+pub ends_line : (bytes begun : List ℕ) (ended : List (List ℕ)) → Ends bytes ended begun → NoLineFeed begun → Ends (bytes ++ 10 ∷ []) (ended ++ begun ∷ []) []
+ends_line bytes begun ended ends all = λ rest.
+    ap lines_of (append_assoc bytes (10 ∷ []) rest) ∙ (ends (10 ∷ rest) ∙ (ap (λ ls. ended ++ ls) (lines-line begun rest all) ∙ sym (append_assoc ended (begun ∷ []) (lines_of rest))))
+
+-- the end of the input
+pub ends_last : (bytes begun : List ℕ) (ended : List (List ℕ)) → Ends bytes ended begun → NoLineFeed begun → lines_of bytes ≡ ended ++ begun ∷ []
+ends_last bytes begun ended ends all =
+    ap lines_of (sym (append-nil bytes)) ∙ (ends [] ∙ ap (λ ls. ended ++ ls) (ap lines_of (append-nil begun) ∙ lines-last begun all))
+
+module _ (rules : RuleSet) where
+  -- of the first bytes of a line 4097 decide the reply, whatever comes after them
+  pub of_cut_first : (line more : List ℕ) (reply : ReplyText) → IsReplyToLine rules (take 4097 line ++ more) reply → IsReplyToLine rules (line ++ more) reply
+  of_cut_first line more reply is = test (nat_le (length line) 4096) refl
+    where
+      test : (v : Bool) → nat_le (length line) 4096 ≡ v → IsReplyToLine rules (line ++ more) reply
+      test true e =
+          let short : length line ≤ 4096 = leb-true (length line) 4096 e in
+          subst (λ bytes. IsReplyToLine rules (bytes ++ more) reply) (take_all 4097 line (omega (arith, short))) is
+      test false e =
+          let long : 4096 < length line = leb-false (length line) 4096 e in
+          let whole : 4096 < length (line ++ more) = omega (arith, long, length-append line more) in
+          let cut : 4096 < length (take 4097 line ++ more) = omega (arith, long, length-take 4097 line, length-append (take 4097 line) more) in
+          subst (IsReplyToLine rules (line ++ more)) (sym ((one_line_reply rules (take 4097 line ++ more)).once reply unreadable is (long_line rules (take 4097 line ++ more) cut))) (long_line rules (line ++ more) whole)
+
+  -- of a line the first 4097 bytes decide the reply
+  pub of_cut : (line : List ℕ) (reply : ReplyText) → IsReplyToLine rules (take 4097 line) reply → IsReplyToLine rules line reply
+  of_cut line reply is =
+      subst (λ bytes. IsReplyToLine rules bytes reply) (append-nil line)
+      (of_cut_first line [] reply (subst (λ bytes. IsReplyToLine rules bytes reply) (sym (append-nil (take 4097 line))) is))
+
+-- a beginning of a line that is cut, and more of it
+pub take-cut : (n : ℕ) (xs ys : List ℕ) → take n (take n xs ++ ys) ≡ take n (xs ++ ys)
+take-cut zero xs ys = refl
+take-cut (suc n) [] ys = refl
+take-cut (suc n) (x ∷ xs) ys = ap (λ zs. x ∷ zs) (take-cut n xs ys)
+
+and_true : (b : Bool) → (b && true) ≡ b
+and_true true = refl
+and_true false = refl
+
+pub printed-append : (n : ℕ) (replies more : List ReplyText) → printed_from n (replies ++ more) ≡ printed_from n replies ++ printed_from (number_after n replies) more
+printed-append n [] more = refl
+printed-append n (one ∷ replies) more =
+    ap (λ text. printed n one ++ text) (printed-append (next_number n) replies more) ∙ sym (append_assoc (printed n one) _ _)
+
+pub printed-push : (n : ℕ) (replies : List ReplyText) (reply : ReplyText) → printed_from n (replies ++ reply ∷ []) ≡ printed_from n replies ++ printed (number_after n replies) reply
+printed-push n replies reply =
+    printed-append n replies (reply ∷ []) ∙ ap (λ text. printed_from n replies ++ text) (append-nil (printed (number_after n replies) reply))
+
+pub number-push : (n : ℕ) (replies : List ReplyText) (reply : ReplyText) → number_after n (replies ++ reply ∷ []) ≡ next_number (number_after n replies)
+number-push n [] reply = refl
+number-push n (one ∷ replies) reply = number-push (next_number n) replies reply
+
+pub readable-push : (replies : List ReplyText) (reply : ReplyText) → list_all is_readable (replies ++ reply ∷ []) ≡ (list_all is_readable replies && is_readable reply)
+readable-push replies reply =
+    list_all-append is_readable replies (reply ∷ []) ∙ ap (λ b. list_all is_readable replies && b) (and_true (is_readable reply))
 
 -- of the block some bytes are taken, and the rest is left
 pub record TakesPart (rules : RuleSet) (bytes before block rest : List ℕ) (session : Session) : Type 0 where

@@ -1,5 +1,5 @@
--- What a program prints for an input, by a set of rules.
-use Rattle.std.specs.Prelude.{◌≡◌, ◌≢◌, ◌+◌, ◌-◌, ◌^◌, ◌++◌, ℕ, min, nat_eq, decimal, codes, Bool, true, false, List, [], ◌∷◌}
+-- What a program prints for an input, by a set of rules, and its exit status.
+use Rattle.std.specs.Prelude.{◌≡◌, ◌≢◌, ◌+◌, ◌-◌, ◌^◌, ◌++◌, ℕ, min, nat_eq, decimal, codes, Bool, true, false, List, [], ◌∷◌, Result, Ok, Err}
 use Rattle.std.specs.Io.{StartsWith}
 use Rattle.std.specs.List.{AllZip, list_all}
 use Rattle.wgsl_requests.specs.Replies.{ReplyText, nothing, answer, unreadable}
@@ -69,3 +69,11 @@ PrintsUntil rules Write input text = (others : List (List ℕ)) × (rest : List 
 abbrev pub PrintsFirst : RuleSet → List ℕ → List ℕ → Type 0
 PrintsFirst rules input text = (whole : List ℕ) (readable : Bool)
     → Prints rules input whole readable → StartsWith whole text
+
+-- 0 if every line was readable, 2 if one was not, 1 if a read or a write failed, 3 if out of memory
+abbrev pub status_of : Result Bool RunError → ℕ
+status_of (Ok true) = 0
+status_of (Ok false) = 2
+status_of (Err Read) = 1
+status_of (Err Write) = 1
+status_of (Err Memory) = 3

@@ -1,8 +1,7 @@
 // Lines in, answers out.
 ghost use Rattle.std.specs.Prelude.{◌≡◌, ◌+◌, ◌-◌, ◌^◌, ◌++◌, ℕ, List, [], IfErr, IfOk, IfSome, IsOk, IsOkUnless, OnErr, OnOk, MatchResult, Option, min, string_bytes};
 ghost use Rattle.std.specs.Io.KnownBytes.{Appends};
-ghost use Rattle.wgsl_lines.specs.Output.{Prints, PrintsFirst, PrintsUntil, bad_line};
-ghost use Rattle.wgsl_lines.specs.Status.{status_of};
+ghost use Rattle.wgsl_lines.specs.Output.{Prints, PrintsFirst, PrintsUntil, bad_line, status_of};
 ghost use Rattle.wgsl_lines.specs.declared.run.RunError.TheVariants.{Memory};
 ghost use Rattle.wgsl_lines.specs.Session.{reply_of_kind};
 ghost use Rattle.wgsl_replies.specs.Replies.{IsReplyToLine};

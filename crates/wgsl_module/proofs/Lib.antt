@@ -1,1 +1,4 @@
-mod Told
+mod Allowed
+mod Faulty
+mod Kept
+mod Runs

@@ -1,11 +1,6 @@
 -- Where control goes on from a statement (WGSL, "Behaviors").
 use Rattle.std.specs.Prelude.{Bool, true, false, not, ◌||◌, cond}
-
-pub record Behaviour : Type 0 where
-  pub next : Bool
-  pub breaks : Bool
-  pub continues : Bool
-  pub returns : Bool
+use Rattle.wgsl_module.specs.declared.behaviour.Behaviour.{Behaviour}
 
 -- `x = 1;`, `{ }`
 abbrev pub goes_on : Behaviour

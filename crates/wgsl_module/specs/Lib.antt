@@ -1,5 +1,9 @@
 pub mod Behaviours
+pub mod Checked
+pub mod Control
 pub mod Declarations
 pub mod Flow
+pub mod Noted
+pub mod Runs
 pub mod Statements
-pub mod Views
+pub mod Told

@@ -1,16 +1,20 @@
 -- What a statement that is read does to those that are open, and what of it is wrong by where control goes on (WGSL, "Control
 -- Flow", "Behaviors").
-use Rattle.std.specs.Prelude.{List, [], ◌∷◌, Bool, true, false, Option, Some, None, cond, option_map}
-use Rattle.wgsl_module.specs.Behaviours.{Behaviour, either, goes_on, looped, never_ends, nowhere, return_alone, switched}
-use Rattle.wgsl_module.specs.Flow.{Around, Frame, a_block, a_choice, begun, begun_on, below, block_on, body_on, clauses_on, ended, if_on, with_body, with_continuing, without_returned}
-use Rattle.wgsl_names.specs.Faults.{IsToldIf}
-use Rattle.wgsl_names.specs.declared.fault.Fault.{Fault}
-use Rattle.wgsl_names.specs.declared.fault.Place.{Place}
-use Rattle.wgsl_names.specs.declared.fault.Rule.TheVariants as rules
+use Rattle.std.specs.Prelude.{List, [], ◌∷◌, Bool, true, false, Option, Some, None, cond, not, option_map}
+use Rattle.wgsl_module.specs.Behaviours.{break_alone, continue_alone, either, goes_on, looped, may_break, never_ends, nowhere, return_alone, switched}
+use Rattle.wgsl_module.specs.Flow.{begun_on, below, block_on, body_on, clauses_on, ended, if_on, with_body, with_continuing, without_returned}
+use Rattle.wgsl_module.specs.declared.behaviour.Behaviour.{Behaviour}
+use Rattle.wgsl_module.specs.declared.frame.Around.{Around}
+use Rattle.wgsl_module.specs.declared.frame.Frame.{Frame}
+use Rattle.wgsl_module.specs.declared.frame.Frame.TheVariants as frames
 use Rattle.wgsl_reader.specs.declared.kind.Kind.{Kind}
 use Rattle.wgsl_reader.specs.declared.kind.Kind.TheVariants as kinds
 
 -- Begin
+
+-- around the statements of a function
+abbrev pub in_function : Around
+in_function = record { may_break = false; may_continue = false; in_continuing = false }
 
 -- what is around the statements of a loop, of a `switch` and of a `continuing`
 abbrev pub inside : Kind → Around → Around
@@ -32,7 +36,7 @@ has_blocks kinds.If = true
 has_blocks word = false
 
 abbrev pub began : Kind → Around → List Frame → List Frame
-began word around fs = cond (has_blocks word) (begun word around false ∷ fs) fs
+began word around fs = cond (has_blocks word) (frames.Begun word around false ∷ fs) fs
 
 -- what is around behind the statement on top: what was around it
 abbrev pub outside_of : Option (Kind × Around × Bool) → Around → Around
@@ -55,7 +59,7 @@ block_closed fs = closed_as (block_on fs) (below fs)
 
 -- control may come to the end of a function's body
 abbrev pub may_fall_off : List Frame → Bool
-may_fall_off (a_block b ∷ []) = b.next
+may_fall_off (frames.Block b ∷ []) = b.next
 may_fall_off fs = false
 
 -- Ends
@@ -84,33 +88,33 @@ goes_nowhere (Some b) = never_ends b
 
 -- Jumps
 
--- `break;` stands in a loop or a `switch`, `continue;` in a loop, and not across a `continuing`
-abbrev pub may_jump : Behaviour → Around → Bool
-may_jump b around = cond b.breaks around.may_break around.may_continue
+-- `break;` stands in a loop or a `switch`. One that would end a loop from its `continuing` is wrong, and does what `break if` does;
+-- any other that is wrong does nothing.
+abbrev pub broken_off : Around → Behaviour
+broken_off a = cond a.may_break break_alone (cond a.in_continuing may_break goes_on)
 
--- one that is wrong does nothing
-abbrev pub jumped : Behaviour → Bool → Behaviour
-jumped b true = b
-jumped b false = goes_on
+-- `continue;` stands in a loop, and not across a `continuing`. One that is wrong does nothing.
+abbrev pub continued : Around → Behaviour
+continued a = cond a.may_continue continue_alone goes_on
 
 -- `return;`, `return x;`
 abbrev pub return_ended : List Frame → List Frame
 return_ended fs = ended return_alone (without_returned fs)
 
--- A `continuing` can't return, and a function with a result returns a value.
-abbrev pub IsReturnTold : Bool → Bool → Place → List Fault → List Fault → Type 0
-IsReturnTold in_continuing lacks_value place old new =
-    (between : List Fault) × IsToldIf in_continuing rules.Behaviour place old between × IsToldIf lacks_value rules.Type place between new
-
 -- Switches
 
 -- the value behind `switch` is read: it has no clause yet
 abbrev pub switch_opened : List Frame → List Frame
-switch_opened fs = a_choice nowhere ∷ fs
+switch_opened fs = frames.Clauses nowhere false ∷ fs
 
 -- `case 1 { }`, `default { }`: what any of the clauses does
 abbrev pub with_clause : List Frame → List Frame
-with_clause fs = a_choice (either (clauses_on (below fs)) (body_on fs)) ∷ below (below fs)
+with_clause fs = frames.Clauses (either (clauses_on (below fs)).0 (body_on fs)) (clauses_on (below fs)).1 ∷ below (below fs)
+
+-- `default`, of which there is one
+abbrev pub with_default : List Frame → List Frame
+with_default (frames.Clauses b has_default ∷ fs) = frames.Clauses b true ∷ fs
+with_default fs = fs
 
 abbrev pub switch_ended : List Frame → List Frame
-switch_ended fs = ended (switched (clauses_on fs)) (below (below fs))
+switch_ended fs = ended (switched (clauses_on fs).0) (below (below fs))

@@ -1,4 +1,6 @@
 // Attributes where they stand, and what their arguments say (WGSL, "Attributes"). Only tested.
+ghost use Rattle.std.specs.Prelude.{◌≡◌, IfOk};
+ghost use Rattle.wgsl_module.specs.Noted.{HasArguments, Keeps, OpensAttribute, state};
 
 use crate::attribute::{Attribute, Attributes, Name, Owner, Row, row_named};
 use crate::checker::Checker;
@@ -10,6 +12,13 @@ use wgsl_reader::kind::Kind;
 use wgsl_source::fault::{Cause, Expected};
 use wgsl_source::meant::is_severity;
 use wgsl_typing::item::Item;
+use wgsl_typing::meant::nearest_of;
+
+/// The names that `@interpolate` takes: first how, then where a value is sampled.
+static INTERPOLATIONS: [&str; 2] = [
+    "perspective linear flat",
+    "center centroid sample first either",
+];
 
 /// What stands in the brackets of an attribute.
 #[derive(Drop)]
@@ -54,20 +63,26 @@ impl<'t> Checker<'t> {
     }
 
     /// The attributes that were read since the last ones were taken.
-    pub fn take_attributes(&mut self) -> Attributes {
+    pub fn take_attributes(&mut self) -> Attributes
+        ensures { state self.new ≡ state self.old }
+    {
         let taken = self.pending;
         self.pending = Attributes::none(taken.to);
         taken
     }
 
     /// `@name`: its arguments are a list.
-    pub fn open_attribute(&mut self, count: usize) -> Result<(), AllocError> {
+    pub fn open_attribute(&mut self, count: usize) -> Result<(), AllocError>
+        ensures { IfOk result (λ u. OpensAttribute count (state self.old) (state self.new)) }
+    {
         self.expressions.push(Item::Name(count))?;
         self.expressions.push(Item::OpenList)
     }
 
     /// The severity of `diagnostic(off, a)`, which is an attribute behind `@`.
-    pub fn put_severity(&mut self, count: usize) -> Result<(), AllocError> {
+    pub fn put_severity(&mut self, count: usize) -> Result<(), AllocError>
+        ensures { Keeps (state self.old) (state self.new) }
+    {
         let named = count.saturating_sub(2);
         let is_attribute = self.expressions.token_before(named.saturating_sub(1)).kind == Kind::At;
         if is_attribute && !matches!(self.owner, Owner::Function | Owner::Statement) {
@@ -77,11 +92,39 @@ impl<'t> Checker<'t> {
             self.tell_name(Rule::Syntax, count, "is no severity")?;
             self.suggest(count, Cause::Expected(Expected::Severity))?;
         }
-        Ok(())
+        match is_attribute && self.owner != Owner::Function {
+            true => Ok(()),
+            false => self.put_filter(count),
+        }
+    }
+
+    /// `diagnostic(off, a)`: each rule is filtered with one severity (WGSL, "Diagnostic Filtering").
+    fn put_filter(&mut self, count: usize) -> Result<(), AllocError>
+        ensures { Keeps (state self.old) (state self.new) }
+    {
+        let (alloc, rule) = (self.expressions.alloc, count.saturating_add(2));
+        let name = match self.expressions.token_before(rule.saturating_add(1)).kind {
+            Kind::Period => {
+                format!(in alloc; "{}.{}", self.word(rule), self.word(rule.saturating_add(2)))?
+            }
+            _ => String::from_str(alloc, self.word(rule))?,
+        };
+        match self.filters.get(name.as_str()).copied() {
+            Some(first) if self.word(first) != self.word(count) => {
+                self.tell_name(Rule::Duplicate, rule, "has another severity above")
+            }
+            Some(_) => Ok(()),
+            None => {
+                self.filters.insert(name, count)?;
+                Ok(())
+            }
+        }
     }
 
     /// An attribute that WGSL doesn't have, as `@stage(vertex)` of old.
-    fn refuse_unknown(&mut self, named: usize, arguments: &Arguments) -> Result<(), AllocError> {
+    fn refuse_unknown(&mut self, named: usize, arguments: &Arguments) -> Result<(), AllocError>
+        ensures { Keeps (state self.old) (state self.new) }
+    {
         self.refuse_attribute(named, "is no attribute")?;
         let is_stage = self.word(named) == "stage";
         match arguments.names.as_slice() {
@@ -93,30 +136,77 @@ impl<'t> Checker<'t> {
         }
     }
 
-    fn refuse_attribute(&mut self, named: usize, message: &str) -> Result<(), AllocError> {
+    /// Names that are no interpolation, or that don't stand together.
+    fn refuse_interpolation(
+        &mut self,
+        named: usize,
+        arguments: &Arguments,
+    ) -> Result<(), AllocError>
+        ensures { Keeps (state self.old) (state self.new) }
+    {
+        let meant = self.interpolation_meant(arguments);
+        self.refuse_attribute(named, "has no such interpolation")?;
+        self.expressions.suggest(meant)
+    }
+
+    /// What the first argument that is no interpolation may have meant.
+    fn interpolation_meant(&self, arguments: &Arguments) -> Option<&'t str> {
+        for (count, names) in arguments.names.iter().zip(&INTERPOLATIONS) {
+            let word = self.word(*count);
+            match nearest_of(word, names) {
+                Some(meant) if meant != word => return Some(meant),
+                _ => {}
+            }
+        }
+        None
+    }
+
+    fn refuse_attribute(&mut self, named: usize, message: &str) -> Result<(), AllocError>
+        ensures { Keeps (state self.old) (state self.new) }
+    {
         self.pending.are_fine = false;
         self.tell_name(Rule::Attribute, named, message)
     }
 
     /// `@name(x)` is read. A name in brackets that take names stands for no value.
-    pub fn close_attribute(&mut self, count: usize) -> Result<(), AllocError> {
+    pub fn close_attribute(&mut self, count: usize) -> Result<(), AllocError>
+        ensures arguments { IfOk result (λ u. HasArguments (state self.old) (state self.new)) }
+        ensures declarations { IfOk result (λ u. (state self.new).declarations ≡ (state self.old).declarations) }
+    {
         if self.expressions.token_before(count).kind == Kind::Const {
             return self.tell_last(Rule::Attribute, count, "@const can't be written");
         }
-        let mut list = self.expressions.take_list()?;
+        let list = self.expressions.take_list()?;
         let named = self.expressions.take_name();
         let row = row_named(self.word(named));
+        if let None | Some((_, Name::Vertex | Name::Fragment | Name::Compute, _, _, _)) = row {
+            self.pending.have_stage = true;
+        }
+        let has_list = count > named;
+        let arguments = self.arguments(row, has_list, list)?;
+        self.put_attribute(row, named, &arguments)?;
+        self.note_values(arguments.parts)
+    }
+
+    /// What stands in this list, the one of an attribute.
+    fn arguments(
+        &mut self,
+        row: Option<Row>,
+        has_list: bool,
+        list: Vec<Item>,
+    ) -> Result<Arguments, AllocError>
+        ensures arguments { IfOk result (λ x. HasArguments (state self.old) (state self.new)) }
+        ensures declarations { IfOk result (λ x. (state self.new).declarations ≡ (state self.old).declarations) }
+    {
         let takes_names = matches!(
             row,
             None | Some((_, Name::Builtin | Name::Interpolate, _, _, _))
         );
-        if let None | Some((_, Name::Vertex | Name::Fragment | Name::Compute, _, _, _)) = row {
-            self.pending.have_stage = true;
-        }
+        let mut list = list;
         let mut arguments = Arguments {
             parts: Vec::new(self.expressions.alloc),
             names: Vec::new(self.expressions.alloc),
-            is_empty_list: count > named && list.is_empty(),
+            is_empty_list: has_list && list.is_empty(),
         };
         for _ in 0..list.len() {
             let name = match list.last() {
@@ -132,11 +222,7 @@ impl<'t> Checker<'t> {
                 arguments.parts.push(part)?;
             }
         }
-        self.put_attribute(row, named, &arguments)?;
-        for part in arguments.parts {
-            self.expressions.note(part)?;
-        }
-        Ok(())
+        Ok(arguments)
     }
 
     /// Keeps an attribute that has no fault.
@@ -145,12 +231,17 @@ impl<'t> Checker<'t> {
         row: Option<Row>,
         named: usize,
         arguments: &Arguments,
-    ) -> Result<(), AllocError> {
+    ) -> Result<(), AllocError>
+        ensures { Keeps (state self.old) (state self.new) }
+    {
         let name = match self.allowed(row, arguments) {
             Ok(name) => name,
             Err(_) if row.is_none() => return self.refuse_unknown(named, arguments),
             Err(message) => return self.refuse_attribute(named, message),
         };
+        if name == Name::Interpolate && !self.is_interpolation(arguments) {
+            return self.refuse_interpolation(named, arguments);
+        }
         let integer = match arguments.parts.first() {
             Some(_) if name == Name::WorkgroupSize => self.workgroup_size(&arguments.parts)?,
             Some(part) => self.integer_of(name, part)?,
@@ -188,8 +279,6 @@ impl<'t> Checker<'t> {
             Err("takes another number of arguments")
         } else if name == Name::Builtin && arguments.names.is_empty() {
             Err("takes a name")
-        } else if name == Name::Interpolate && !self.is_interpolation(arguments) {
-            Err("has no such interpolation")
         } else {
             Ok(name)
         }
@@ -212,7 +301,9 @@ impl<'t> Checker<'t> {
 
     /// The integer that is the argument of an attribute, `@size` and `@align` from 1 on: None where a fault is told, `Some(None)` if
     /// it isn't computed.
-    fn integer_of(&mut self, name: Name, part: &Part) -> Result<Option<Option<i64>>, AllocError> {
+    fn integer_of(&mut self, name: Name, part: &Part) -> Result<Option<Option<i64>>, AllocError>
+        ensures { Keeps (state self.old) (state self.new) }
+    {
         let Some(typed) = part.typed() else {
             return Ok(None);
         };
@@ -236,7 +327,9 @@ impl<'t> Checker<'t> {
     }
 
     /// One to three integers of one type, from 1 on: None where a fault is told.
-    fn workgroup_size(&mut self, parts: &[Part]) -> Result<Option<Option<i64>>, AllocError> {
+    fn workgroup_size(&mut self, parts: &[Part]) -> Result<Option<Option<i64>>, AllocError>
+        ensures { Keeps (state self.old) (state self.new) }
+    {
         let mut operands = Vec::new(self.expressions.alloc);
         let mut places = Vec::new(self.expressions.alloc);
         for part in parts {
@@ -251,8 +344,10 @@ impl<'t> Checker<'t> {
         }
         for part in parts {
             let is_early = matches!(part.typed(), Some(typed) if typed.stage.is_early());
-            if !is_early || part.integer().unwrap_or(1) <= 0 {
-                let message = "a workgroup's size is positive, and known before the shader runs";
+            let size = part.integer().unwrap_or(1);
+            if !is_early || size == 0 || u32::try_from(size).is_err() {
+                let message =
+                    "a workgroup's size is a positive 32-bit integer, known before the shader runs";
                 self.tell(Rule::EntryPoint, part.place, message)?;
                 return Ok(None);
             }

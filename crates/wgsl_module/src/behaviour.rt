@@ -1,7 +1,6 @@
 // Where control goes on from a statement.
 ghost use Rattle.std.specs.Prelude.{◌≡◌};
 ghost use Rattle.wgsl_module.specs.Behaviours.{continued_by, either, followed_by, looped, never_ends, switched};
-ghost use Rattle.wgsl_module.specs.Views.{behaviour_view};
 
 /// Where control goes on from a statement (WGSL, "Behaviors").
 #[derive(Clone, Copy, PartialEq, Eq)]
@@ -11,8 +10,6 @@ pub struct Behaviour {
     pub breaks: bool,
     pub continues: bool,
     pub returns: bool,
-    /// Whether a `continue` of the loop around stands in it, which may be one that isn't reached.
-    pub has_continue: bool,
 }
 
 impl Behaviour {
@@ -27,7 +24,6 @@ impl Behaviour {
         breaks: false,
         continues: false,
         returns: false,
-        has_continue: false,
     };
 
     pub const BREAK: Behaviour = Behaviour {
@@ -37,7 +33,6 @@ impl Behaviour {
 
     pub const CONTINUE: Behaviour = Behaviour {
         continues: true,
-        has_continue: true,
         ..Behaviour::NOWHERE
     };
 
@@ -54,20 +49,19 @@ impl Behaviour {
 
     /// Of `if c { } else { }`.
     pub fn or(self, other: Behaviour) -> Behaviour
-        ensures { behaviour_view result ≡ either (behaviour_view self) (behaviour_view other) }
+        ensures { result ≡ either self other }
     {
         Behaviour {
             next: self.next || other.next,
             breaks: self.breaks || other.breaks,
             continues: self.continues || other.continues,
             returns: self.returns || other.returns,
-            has_continue: self.has_continue || other.has_continue,
         }
     }
 
     /// Of one statement behind another. What can't be reached changes nothing.
     pub fn followed_by(self, other: Behaviour) -> Behaviour
-        ensures { behaviour_view result ≡ followed_by (behaviour_view self) (behaviour_view other) }
+        ensures { result ≡ followed_by self other }
     {
         if self.next {
             Behaviour {
@@ -76,16 +70,13 @@ impl Behaviour {
             }
             .or(other)
         } else {
-            Behaviour {
-                has_continue: self.has_continue || other.has_continue,
-                ..self
-            }
+            self
         }
     }
 
     /// Of the body of a loop with its `continuing`.
     pub fn continued_by(self, last: Behaviour) -> Behaviour
-        ensures { behaviour_view result ≡ continued_by (behaviour_view self) (behaviour_view last) }
+        ensures { result ≡ continued_by self last }
     {
         if self.next || self.continues {
             self.or(last)
@@ -96,7 +87,7 @@ impl Behaviour {
 
     /// Of a loop with this body, which may end by its condition or not.
     pub fn looped(self, has_condition: bool) -> Behaviour
-        ensures { behaviour_view result ≡ looped has_condition (behaviour_view self) }
+        ensures { result ≡ looped has_condition self }
     {
         Behaviour {
             next: has_condition || self.breaks,
@@ -107,7 +98,7 @@ impl Behaviour {
 
     /// Of a `switch` whose clauses do this.
     pub fn switched(self) -> Behaviour
-        ensures { behaviour_view result ≡ switched (behaviour_view self) }
+        ensures { result ≡ switched self }
     {
         Behaviour {
             next: self.next || self.breaks,
@@ -118,7 +109,7 @@ impl Behaviour {
 
     /// Whether no way leads on.
     pub fn never_ends(self) -> bool
-        ensures { result ≡ never_ends (behaviour_view self) }
+        ensures { result ≡ never_ends self }
     {
         !self.next && !self.returns
     }

@@ -1,233 +1,119 @@
-// Statements with blocks (WGSL, "Control Flow", "Behaviors").
-ghost use Rattle.std.specs.Prelude.{◌≡◌, ◌∷◌, ◌&&◌, IfOk, is_some, option_map};
-ghost use Rattle.wgsl_module.specs.Behaviours.{goes_on, may_break, never_ends};
-ghost use Rattle.wgsl_module.specs.Flow.{a_block, around_view, begun_on, below, ended, flow_view, with_condition, with_else};
-ghost use Rattle.wgsl_module.specs.Statements.{began, block_closed, continuing_ended, goes_nowhere, if_ended, inside, loop_ended, loop_on, may_fall_off, outside_of};
-ghost use Rattle.wgsl_module.specs.Views.{behaviour_view};
-ghost use Rattle.wgsl_names.specs.Faults.{IsToldIf, last_of};
-ghost use Rattle.wgsl_typing.specs.Words.{kind_at};
+// The names of blocks (WGSL, "Declaration and Scope").
+ghost use Rattle.std.specs.Prelude.{IfOk};
+ghost use Rattle.wgsl_module.specs.Noted.{Keeps, Uses, state};
 
-use crate::behaviour::Behaviour;
 use crate::checker::Checker;
-use crate::frame::{Around, Block, Frame};
 use std::alloc::AllocError;
-use wgsl_names::fault::Rule;
 use wgsl_reader::kind::Kind;
+
+/// A loop whose body is read.
+#[derive(Clone, Copy)]
+pub struct Loop {
+    /// How many blocks are open around its body.
+    blocks: usize,
+    /// How many names were in scope in front of the first statement that may continue it.
+    continued: Option<usize>,
+    /// The names around it that a `continue` may skip.
+    skipped: (usize, usize),
+}
 
 impl<'t> Checker<'t> {
     /// The word of a statement that has blocks, or what stands in front of the body of a function.
-    pub fn begin(&mut self, count: usize) -> Result<(), AllocError>
-        ensures flow { IfOk result (λ u. flow_view self.new.flow ≡ began (kind_at self.old.expressions.tokens.now count) (around_view self.old.around) (flow_view self.old.flow)) }
-        ensures around { IfOk result (λ u. around_view self.new.around ≡ inside (kind_at self.old.expressions.tokens.now count) (around_view self.old.around)) }
-        ensures faults { self.new.expressions.faults ≡ self.old.expressions.faults }
+    pub fn begin(&mut self, word: Kind) -> Result<(), AllocError>
+        ensures { Keeps (state self.old) (state self.new) }
     {
-        let word = self.expressions.token_before(count).kind;
-        let outside = self.around;
-        let inside = match word {
-            Kind::For | Kind::While | Kind::Loop => Around {
-                may_break: true,
-                may_continue: true,
-                ..outside
-            },
-            Kind::Switch => Around {
-                may_break: true,
-                ..outside
-            },
-            Kind::Continuing => Around {
-                may_break: false,
-                may_continue: false,
-                in_continuing: true,
-                skipped: self.skipped(),
-            },
-            Kind::If => outside,
-            _ => return Ok(()),
-        };
-        self.go(inside);
-        if has_scope(word) {
-            self.expressions.locals.open()?;
-        }
-        self.flow.push(Frame::Begun(word, outside, false))
-    }
-
-    /// Goes into a statement, or out of it: this is around from now on.
-    pub fn go(&mut self, around: Around)
-        ensures around { self.new.around ≡ around }
-        ensures flow { self.new.flow ≡ self.old.flow }
-        ensures faults { self.new.expressions.faults ≡ self.old.expressions.faults }
-    {
-        self.around = around;
-        self.expressions.skipped = around.skipped;
-    }
-
-    /// The names of the loop's body that a `continue` may skip.
-    fn skipped(&self) -> (usize, usize) {
-        if let Some(Frame::Block(block)) = self.flow.last() {
-            if let Some(from) = block.continued {
-                return (from, self.expressions.locals.len());
+        match word {
+            Kind::For => {
+                self.open_block()?;
+                self.begin_loop()
             }
+            Kind::While | Kind::Loop => self.begin_loop(),
+            Kind::Continuing => {
+                self.enter_continuing();
+                Ok(())
+            }
+            _ => Ok(()),
         }
-        self.around.skipped
     }
 
-    /// Whether a block has the scope of what is around it.
-    fn shares_scope(&self) -> bool {
-        matches!(
-            self.flow.last(),
-            Some(Frame::Begun(Kind::Loop, _, _)) | None
-        )
-    }
-
+    /// Opens a block, as that of a `for`'s variable. That of a function's body has the parameters in it.
     pub fn open_block(&mut self) -> Result<(), AllocError>
-        ensures flow { IfOk result (λ u. flow_view self.new.flow ≡ a_block goes_on ∷ flow_view self.old.flow) }
-        ensures around { self.new.around ≡ self.old.around }
-        ensures faults { self.new.expressions.faults ≡ self.old.expressions.faults }
+        ensures { Keeps (state self.old) (state self.new) }
     {
-        if !self.shares_scope() {
+        if !self.blocks.is_empty() {
             self.expressions.locals.open()?;
         }
-        self.flow.push(Frame::Block(Block {
-            behaviour: Behaviour::NEXT,
-            continued: None,
-        }))
+        self.blocks.push(self.expressions.locals.len())?;
+        Ok(())
     }
 
-    pub fn close_block(&mut self, count: usize) -> Result<(), AllocError>
-        ensures flow { IfOk result (λ u. flow_view self.new.flow ≡ block_closed (flow_view self.old.flow)) }
-        ensures told { IfOk result (λ u. IsToldIf (may_fall_off (flow_view self.old.flow) && is_some self.old.result) Rule.Behaviour (last_of count) self.old.expressions.faults.items self.new.expressions.faults.items) }
-        ensures around { self.new.around ≡ self.old.around }
+    pub fn close_block(&mut self) -> Result<(), AllocError>
+        ensures { Keeps (state self.old) (state self.new) }
     {
-        let Some(behaviour) = self.flow.take_block() else {
-            return Ok(());
-        };
-        if self.flow.is_empty() {
-            return self.close_body(behaviour, count);
-        }
-        if !self.shares_scope() {
+        self.blocks.pop();
+        if !self.blocks.is_empty() {
             self.expressions.locals.close()?;
         }
-        self.flow.put_body(behaviour, self.expressions.locals.len())
+        Ok(())
     }
 
-    /// A statement is read: what it does, the block around it does too.
-    pub fn end(&mut self, behaviour: Behaviour) -> Result<(), AllocError>
-        ensures flow { IfOk result (λ u. flow_view self.new.flow ≡ ended (behaviour_view behaviour) (flow_view self.old.flow)) }
-        ensures around { self.new.around ≡ self.old.around }
-        ensures expressions { self.new.expressions ≡ self.old.expressions }
+    fn begin_loop(&mut self) -> Result<(), AllocError>
+        ensures { Keeps (state self.old) (state self.new) }
     {
-        self.flow.end(behaviour, self.expressions.locals.len())
+        self.loops.push(Loop {
+            blocks: self.blocks.len(),
+            continued: None,
+            skipped: self.expressions.skipped,
+        })?;
+        Ok(())
     }
 
-    fn take_condition(&mut self) -> Result<(), AllocError>
-        ensures flow { self.new.flow ≡ self.old.flow }
-        ensures around { self.new.around ≡ self.old.around }
+    /// `while`, `loop`
+    pub fn end_loop(&mut self)
+        ensures { Keeps (state self.old) (state self.new) }
+    {
+        self.loops.pop();
+    }
+
+    /// `continue;`: it skips what the loop's body declares behind it.
+    pub fn skip_names(&mut self)
+        ensures { Keeps (state self.old) (state self.new) }
+    {
+        let all = self.expressions.locals.len();
+        if let Some(innermost) = self.loops.last_mut() {
+            if innermost.continued.is_none() {
+                let inner = innermost.blocks.saturating_add(1);
+                innermost.continued = Some(self.blocks.get(inner).copied().unwrap_or(all));
+            }
+        }
+    }
+
+    /// No name can be used in a `continuing` that a `continue` may skip.
+    fn enter_continuing(&mut self)
+        ensures { Keeps (state self.old) (state self.new) }
+    {
+        if let Some(innermost) = self.loops.last() {
+            if let Some(from) = innermost.continued {
+                self.expressions.skipped = (from, self.expressions.locals.len());
+            }
+        }
+    }
+
+    /// `continuing { }`
+    pub fn leave_continuing(&mut self)
+        ensures { Keeps (state self.old) (state self.new) }
+    {
+        if let Some(innermost) = self.loops.last() {
+            self.expressions.skipped = innermost.skipped;
+        }
+    }
+
+    /// The condition of `if`, `while`, `for` or `break if`.
+    pub fn put_condition(&mut self) -> Result<(), AllocError>
+        ensures { IfOk result (λ u. Uses (state self.old) (state self.new)) }
     {
         let part = self.expressions.take_part()?;
         self.expressions.is_condition(&part)?;
         self.expressions.note(part)
     }
-
-    /// The condition of `if`, `while` or `for`.
-    pub fn put_condition(&mut self) -> Result<(), AllocError>
-        ensures flow { IfOk result (λ u. flow_view self.new.flow ≡ with_condition (flow_view self.old.flow)) }
-        ensures around { self.new.around ≡ self.old.around }
-    {
-        self.take_condition()?;
-        self.flow.put_condition()
-    }
-
-    /// `break if x;`
-    pub fn break_if(&mut self) -> Result<(), AllocError>
-        ensures flow { IfOk result (λ u. flow_view self.new.flow ≡ ended may_break (flow_view self.old.flow)) }
-        ensures around { self.new.around ≡ self.old.around }
-    {
-        self.take_condition()?;
-        self.end(Behaviour::MAY_BREAK)
-    }
-
-    /// `else { }`, `else if`
-    pub fn close_else(&mut self) -> Result<(), AllocError>
-        ensures flow { IfOk result (λ u. flow_view self.new.flow ≡ with_else (flow_view self.old.flow)) }
-        ensures around { self.new.around ≡ self.old.around }
-        ensures expressions { self.new.expressions ≡ self.old.expressions }
-    {
-        self.flow.close_else()
-    }
-
-    pub fn close_if(&mut self) -> Result<(), AllocError>
-        ensures flow { IfOk result (λ u. flow_view self.new.flow ≡ if_ended (flow_view self.old.flow)) }
-        ensures around { IfOk result (λ u. around_view self.new.around ≡ outside_of (begun_on (below (flow_view self.old.flow))) (around_view self.old.around)) }
-        ensures faults { self.new.expressions.faults ≡ self.old.expressions.faults }
-    {
-        let behaviour = self.flow.take_if();
-        self.leave();
-        self.end(behaviour)
-    }
-
-    /// The statement on top is read: its word, and whether it has a condition.
-    pub fn leave(&mut self) -> Option<(Kind, bool)>
-        ensures begun { result ≡ option_map (λ b. (b.0, b.2)) (begun_on (flow_view self.old.flow)) }
-        ensures rest { flow_view self.new.flow ≡ below (flow_view self.old.flow) }
-        ensures around { around_view self.new.around ≡ outside_of (begun_on (flow_view self.old.flow)) (around_view self.old.around) }
-        ensures faults { self.new.expressions.faults ≡ self.old.expressions.faults }
-    {
-        let (word, outside, has_condition) = self.flow.leave()?;
-        self.go(outside);
-        Some((word, has_condition))
-    }
-
-    /// `while`, `for`, `loop`
-    pub fn close_loop(&mut self, count: usize) -> Result<(), AllocError>
-        ensures flow { IfOk result (λ u. flow_view self.new.flow ≡ loop_ended (flow_view self.old.flow)) }
-        ensures around { IfOk result (λ u. around_view self.new.around ≡ outside_of (begun_on (below (flow_view self.old.flow))) (around_view self.old.around)) }
-        ensures told { IfOk result (λ u. IsToldIf (goes_nowhere (loop_on (flow_view self.old.flow))) Rule.Behaviour (last_of count) self.old.expressions.faults.items self.new.expressions.faults.items) }
-    {
-        let body = self.flow.take_body();
-        let Some((word, has_condition)) = self.leave() else {
-            return Ok(());
-        };
-        self.close_scope(word)?;
-        let behaviour = body.looped(has_condition);
-        self.check_end(behaviour, count)?;
-        self.end(behaviour)
-    }
-
-    /// Closes the scope that a statement with this word has.
-    fn close_scope(&mut self, word: Kind) -> Result<(), AllocError>
-        ensures flow { self.new.flow ≡ self.old.flow }
-        ensures around { self.new.around ≡ self.old.around }
-        ensures faults { self.new.expressions.faults ≡ self.old.expressions.faults }
-    {
-        if has_scope(word) {
-            self.expressions.locals.close()?;
-        }
-        Ok(())
-    }
-
-    /// A loop that does this ends.
-    fn check_end(&mut self, behaviour: Behaviour, count: usize) -> Result<(), AllocError>
-        ensures told { IfOk result (λ u. IsToldIf (never_ends (behaviour_view behaviour)) Rule.Behaviour (last_of count) self.old.expressions.faults.items self.new.expressions.faults.items) }
-        ensures flow { self.new.flow ≡ self.old.flow }
-        ensures around { self.new.around ≡ self.old.around }
-    {
-        if behaviour.never_ends() {
-            self.tell_last(Rule::Behaviour, count, "this loop never ends")?;
-        }
-        Ok(())
-    }
-
-    /// `continuing { }`
-    pub fn close_continuing(&mut self) -> Result<(), AllocError>
-        ensures flow { IfOk result (λ u. flow_view self.new.flow ≡ continuing_ended (flow_view self.old.flow)) }
-        ensures around { IfOk result (λ u. around_view self.new.around ≡ outside_of (begun_on (below (flow_view self.old.flow))) (around_view self.old.around)) }
-        ensures faults { self.new.expressions.faults ≡ self.old.expressions.faults }
-    {
-        let last = self.flow.take_body();
-        self.leave();
-        self.flow.continue_with(last)
-    }
-}
-
-/// Whether such a statement opens a scope: `for` that of its variable, `loop` that which its `continuing` sees.
-fn has_scope(word: Kind) -> bool {
-    matches!(word, Kind::For | Kind::Loop)
 }

@@ -1,52 +1,96 @@
 // Bodies of functions (WGSL, "Function Declarations").
-ghost use Rattle.std.specs.Prelude.{◌≡◌, ◌&&◌, IfOk, is_some};
-ghost use Rattle.wgsl_names.specs.Faults.{IsToldIf, last_of};
+ghost use Rattle.std.specs.Prelude.{◌≡◌, IfOk, slice_get};
+ghost use Rattle.wgsl_module.specs.Noted.{Keeps, reading, state};
+ghost use Rattle.wgsl_module.specs.Runs.{AreBodies, IsBodyOf, IsRun, cleared};
 
 use crate::attribute::Owner;
-use crate::behaviour::Behaviour;
 use crate::checker::{Checker, Interface};
 use crate::declaration::DeclarationKind;
 use crate::field::Field;
-use crate::frame::Around;
 use std::alloc::{AllocError, Global};
 use wgsl_core::ty::Type;
 use wgsl_forms::declare::{is_const_type, is_let_type};
-use wgsl_names::fault::Rule;
 use wgsl_names::known::Typed;
 use wgsl_names::stage::Stage;
+use wgsl_reader::read::Event;
+use wgsl_reader::token::Token;
 use wgsl_typing::expressions::Doings;
 
 impl<'t> Checker<'t> {
-    /// Reads the body of a function.
-    pub fn read_body(&mut self, index: usize) -> Result<(), AllocError> {
-        let declaration = match self.declaration(index) {
-            Some(declaration) if declaration.kind == DeclarationKind::Function => declaration,
-            _ => return Ok(()),
-        };
-        let Some(interface) = self.take_interface(index) else {
+    /// Reads the bodies of the functions.
+    pub fn read_bodies(&mut self, tokens: &[Token]) -> Result<(), AllocError>
+        ensures { IfOk result (λ u. AreBodies tokens.now self.old.declarations.items (reading (state self.old)) (reading (state self.new))) }
+    {
+        for index in 0..self.declarations.len() {
+            self.read_body(tokens, index)?;
+        }
+        Ok(())
+    }
+
+    /// Reads the body of the declaration with an index, if that is a function.
+    fn read_body(&mut self, tokens: &[Token], index: usize) -> Result<(), AllocError>
+        ensures body { IfOk result (λ u. IsBodyOf tokens.now (slice_get self.old.declarations.items index) (reading (state self.old)) (reading (state self.new))) }
+        ensures declarations { IfOk result (λ u. (state self.new).declarations ≡ (state self.old).declarations) }
+    {
+        let Some(declaration) = self.declaration(index) else {
             return Ok(());
         };
+        match declaration.kind {
+            DeclarationKind::Function => self.read_body_of(tokens, index, declaration.body),
+            _ => Ok(()),
+        }
+    }
+
+    fn read_body_of(
+        &mut self,
+        tokens: &[Token],
+        index: usize,
+        body: &[Event],
+    ) -> Result<(), AllocError>
+        ensures run { IfOk result (λ u. IsRun tokens.now body.now (reading (state self.old)) (reading (state self.new))) }
+        ensures declarations { IfOk result (λ u. (state self.new).declarations ≡ (state self.old).declarations) }
+    {
+        self.begin_body(index)?;
+        self.steps(tokens, body)?;
+        self.expressions.locals.close()?;
+        self.keep_doing(index)?;
+        Ok(())
+    }
+
+    /// Nothing is read of the body of a function yet, and its parameters are declared.
+    fn begin_body(&mut self, index: usize) -> Result<(), AllocError>
+        ensures { IfOk result (λ u. reading (state self.new) ≡ cleared (reading (state self.old))) }
+    {
         let alloc = self.expressions.alloc;
-        self.result = match &interface.result {
+        let interface = self.take_interface(index);
+        let field = match &interface {
+            Some(interface) => interface.result.as_ref(),
+            None => None,
+        };
+        self.result = match field {
             Some(field) => returned(alloc, field)?,
             None => None,
         };
-        self.has_faulty_result = interface.result.is_some() && self.result.is_none();
+        self.has_faulty_result = field.is_some() && self.result.is_none();
         self.expressions.items.clear();
-        self.flow.clear();
-        self.go(Around::FUNCTION);
+        self.blocks.clear();
+        self.loops.clear();
+        self.switches.clear();
+        self.expressions.skipped = (0, 0);
         self.owner = Owner::Statement;
         self.expressions.doing = Some(Doings::none(alloc));
         self.expressions.locals.open()?;
-        self.declare_parameters(&interface)?;
-        self.keep(index, interface);
-        self.steps(declaration.body)?;
-        self.expressions.locals.close()?;
-        self.keep_doing(index)
+        if let Some(interface) = interface {
+            self.declare_parameters(&interface)?;
+            self.keep(index, interface);
+        }
+        Ok(())
     }
 
     /// Declares the parameters. One whose type has a fault is faulty.
-    fn declare_parameters(&mut self, interface: &Interface) -> Result<(), AllocError> {
+    fn declare_parameters(&mut self, interface: &Interface) -> Result<(), AllocError>
+        ensures { Keeps (state self.old) (state self.new) }
+    {
         for field in &interface.fields {
             let name = self.word(field.named);
             let typed = match &field.ty {
@@ -62,23 +106,12 @@ impl<'t> Checker<'t> {
         Ok(())
     }
 
-    fn keep_doing(&mut self, index: usize) -> Result<(), AllocError> {
+    fn keep_doing(&mut self, index: usize) -> Result<(), AllocError>
+        ensures { Keeps (state self.old) (state self.new) }
+    {
         let doing = self.expressions.doing.take();
         if let Some(place) = self.doings.get_mut(index) {
             *place = doing;
-        }
-        Ok(())
-    }
-
-    /// The end of a function's body: each path of a function with a result returns.
-    pub fn close_body(&mut self, behaviour: Behaviour, count: usize) -> Result<(), AllocError>
-        ensures told { IfOk result (λ u. IsToldIf (behaviour.next && is_some self.old.result) Rule.Behaviour (last_of count) self.old.expressions.faults.items self.new.expressions.faults.items) }
-        ensures flow { self.new.flow ≡ self.old.flow }
-        ensures around { self.new.around ≡ self.old.around }
-    {
-        if behaviour.next && self.result.is_some() {
-            let message = "this function may end without a `return`";
-            self.tell_last(Rule::Behaviour, count, message)?;
         }
         Ok(())
     }

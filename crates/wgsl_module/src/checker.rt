@@ -1,12 +1,11 @@
 // The state of a check.
-ghost use Rattle.std.specs.Prelude.{◌≡◌, IfOk};
-ghost use Rattle.wgsl_names.specs.Faults.{IsTold, last_of};
+ghost use Rattle.wgsl_module.specs.Noted.{Keeps, state};
 
 use crate::attribute::{Attribute, Attributes, Owner};
+use crate::block::Loop;
 use crate::declaration::Declaration;
 use crate::field::Field;
-use crate::flow::Flow;
-use crate::frame::{Around, Switch};
+use crate::switch::Switch;
 use std::alloc::{AllocError, Global};
 use std::collections::{BTreeMap, BTreeSet};
 use wgsl_core::ty::Type;
@@ -41,11 +40,14 @@ pub struct Checker<'t> {
     pub pending: Attributes,
     /// What the attributes belong to that are read now.
     pub owner: Owner,
+    /// The rules that directives or attributes of one thing filter, each with the number of tokens up to its severity.
+    pub filters: BTreeMap<String, usize>,
     /// What is read of a declaration beside its name's meaning.
     pub interface: Option<Interface>,
-    pub flow: Flow,
+    /// How many names were in scope when each open block of the function began.
+    pub blocks: Vec<usize>,
+    pub loops: Vec<Loop>,
     pub switches: Vec<Switch>,
-    pub around: Around,
     /// The result of the function whose body is read.
     pub result: Option<Type>,
     /// Whether it has one whose type has a fault.
@@ -65,12 +67,28 @@ impl<'t> Checker<'t> {
             attributes: Vec::new(alloc),
             pending: Attributes::none(0),
             owner: Owner::Plain,
+            filters: BTreeMap::new(alloc),
             interface: None,
-            flow: Flow::none(alloc),
+            blocks: Vec::new(alloc),
+            loops: Vec::new(alloc),
             switches: Vec::new(alloc),
-            around: Around::FUNCTION,
             result: None,
             has_faulty_result: false,
+        }
+    }
+
+    /// Takes what is known of a declaration beside its name's meaning; `keep` gives it back.
+    pub fn take_interface(&mut self, index: usize) -> Option<Interface>
+        ensures { Keeps (state self.old) (state self.new) }
+    {
+        self.interfaces.get_mut(index)?.take()
+    }
+
+    pub fn keep(&mut self, index: usize, interface: Interface)
+        ensures { Keeps (state self.old) (state self.new) }
+    {
+        if let Some(place) = self.interfaces.get_mut(index) {
+            *place = Some(interface);
         }
     }
 
@@ -81,26 +99,22 @@ impl<'t> Checker<'t> {
 
     /// Says what is wrong in words that don't depend on the text.
     pub fn tell(&mut self, rule: Rule, place: Place, message: &str) -> Result<(), AllocError>
-        ensures told { IfOk result (λ u. IsTold rule place self.old.expressions.faults.items self.new.expressions.faults.items) }
-        ensures flow { self.new.flow ≡ self.old.flow }
-        ensures around { self.new.around ≡ self.old.around }
-        ensures result { self.new.result ≡ self.old.result }
+        ensures { Keeps (state self.old) (state self.new) }
     {
         self.expressions.tell(rule, place, message)
     }
 
     /// Says what is wrong with the last of that many tokens, or with what ends there.
     pub fn tell_last(&mut self, rule: Rule, count: usize, message: &str) -> Result<(), AllocError>
-        ensures told { IfOk result (λ u. IsTold rule (last_of count) self.old.expressions.faults.items self.new.expressions.faults.items) }
-        ensures flow { self.new.flow ≡ self.old.flow }
-        ensures around { self.new.around ≡ self.old.around }
-        ensures result { self.new.result ≡ self.old.result }
+        ensures { Keeps (state self.old) (state self.new) }
     {
         self.tell(rule, Place::last_of(count), message)
     }
 
     /// Adds to the last fault the name of WGSL that a word may have meant which has this fault.
-    pub fn suggest(&mut self, count: usize, cause: Cause) -> Result<(), AllocError> {
+    pub fn suggest(&mut self, count: usize, cause: Cause) -> Result<(), AllocError>
+        ensures { Keeps (state self.old) (state self.new) }
+    {
         let none = Declared::none(self.expressions.alloc);
         let name = meant(cause, self.word(count), &none);
         self.expressions.suggest(name)
@@ -108,8 +122,7 @@ impl<'t> Checker<'t> {
 
     /// Says what is wrong with a name.
     pub fn tell_name(&mut self, rule: Rule, count: usize, message: &str) -> Result<(), AllocError>
-        ensures flow { self.new.flow ≡ self.old.flow }
-        ensures around { self.new.around ≡ self.old.around }
+        ensures { Keeps (state self.old) (state self.new) }
     {
         self.expressions.tell_name(rule, count, message)
     }

@@ -1,4 +1,5 @@
 // What entry points reach: stages, bindings (WGSL, "Entry Points", "Function Calls"). Only tested.
+ghost use Rattle.wgsl_module.specs.Noted.{Keeps, state};
 
 use crate::attribute::Name;
 use crate::checker::{Checker, Interface};
@@ -15,7 +16,9 @@ use wgsl_syntax::overload::Stages;
 use wgsl_syntax::texture_name::TextureParameters;
 
 impl<'t> Checker<'t> {
-    pub fn check_entry_points(&mut self) -> Result<(), AllocError> {
+    pub fn check_entry_points(&mut self) -> Result<(), AllocError>
+        ensures { Keeps (state self.old) (state self.new) }
+    {
         for index in 0..self.declarations.len() {
             if !matches!(self.expressions.known_at(index), Some(Known::Function(_))) {
                 continue;
@@ -27,7 +30,9 @@ impl<'t> Checker<'t> {
         Ok(())
     }
 
-    fn check_entry_point(&mut self, index: usize, interface: &Interface) -> Result<(), AllocError> {
+    fn check_entry_point(&mut self, index: usize, interface: &Interface) -> Result<(), AllocError>
+        ensures { Keeps (state self.old) (state self.new) }
+    {
         let named = self.named(index).unwrap_or(0);
         let attributes = interface.attributes;
         let has_size = self.has(attributes, Name::WorkgroupSize);
@@ -56,7 +61,9 @@ impl<'t> Checker<'t> {
     }
 
     /// What an entry point and the functions that it calls do is for its stage, and no two of its variables have one binding.
-    fn check_reached(&mut self, stage: ShaderStage, root: usize) -> Result<(), AllocError> {
+    fn check_reached(&mut self, stage: ShaderStage, root: usize) -> Result<(), AllocError>
+        ensures { Keeps (state self.old) (state self.new) }
+    {
         let mut variables = BTreeSet::new(self.expressions.alloc);
         let mut wrong = Vec::new(self.expressions.alloc);
         let walk = self.walk(root, root.saturating_add(1), Link::Call)?;
@@ -93,7 +100,9 @@ impl<'t> Checker<'t> {
         stage: ShaderStage,
         root: usize,
         variables: &BTreeSet<usize>,
-    ) -> Result<(), AllocError> {
+    ) -> Result<(), AllocError>
+        ensures { Keeps (state self.old) (state self.new) }
+    {
         let mut places = BTreeMap::new(self.expressions.alloc);
         for index in variables {
             let named = self.named(*index).unwrap_or(0);

@@ -1,4 +1,6 @@
 // Members of structs, parameters and results of functions.
+ghost use Rattle.std.specs.Prelude.{IfOk};
+ghost use Rattle.wgsl_module.specs.Noted.{DeclaresField, DeclaresResult, Keeps, state};
 
 use crate::attribute::{Attributes, Name};
 use crate::checker::{Checker, Interface};
@@ -28,7 +30,9 @@ pub struct Field {
 
 impl<'t> Checker<'t> {
     /// `a: T` of a struct or of a function
-    pub fn put_field(&mut self) -> Result<(), AllocError> {
+    pub fn put_field(&mut self) -> Result<(), AllocError>
+        ensures { IfOk result (λ u. DeclaresField (state self.old) (state self.new)) }
+    {
         let (place, ty) = self.expressions.take_type()?;
         let named = self.expressions.take_name();
         let attributes = self.take_attributes();
@@ -44,7 +48,9 @@ impl<'t> Checker<'t> {
     }
 
     /// `-> T`
-    pub fn put_result(&mut self) -> Result<(), AllocError> {
+    pub fn put_result(&mut self) -> Result<(), AllocError>
+        ensures { IfOk result (λ u. DeclaresResult (state self.old) (state self.new)) }
+    {
         let (place, ty) = self.expressions.take_type()?;
         let attributes = self.take_attributes();
         if let Some(interface) = &mut self.interface {
@@ -59,10 +65,9 @@ impl<'t> Checker<'t> {
     }
 
     /// The index of the field with a name; None if two have one name.
-    fn names_of(
-        &mut self,
-        fields: &[Field],
-    ) -> Result<Option<BTreeMap<&'t str, usize>>, AllocError> {
+    fn names_of(&mut self, fields: &[Field]) -> Result<Option<BTreeMap<&'t str, usize>>, AllocError>
+        ensures { Keeps (state self.old) (state self.new) }
+    {
         let mut names = BTreeMap::new(self.expressions.alloc);
         let mut are_distinct = true;
         for (index, field) in fields.iter().enumerate() {
@@ -78,7 +83,9 @@ impl<'t> Checker<'t> {
     }
 
     /// What a struct with these members stands for.
-    pub fn structure(&mut self, named: usize, fields: &[Field]) -> Result<Known, AllocError> {
+    pub fn structure(&mut self, named: usize, fields: &[Field]) -> Result<Known, AllocError>
+        ensures { Keeps (state self.old) (state self.new) }
+    {
         let names = self.names_of(fields)?;
         let mut members = Vec::new(self.expressions.alloc);
         for (index, field) in fields.iter().enumerate() {
@@ -102,7 +109,9 @@ impl<'t> Checker<'t> {
         named: usize,
         whole: StructType,
         members: BTreeMap<&'t str, usize>,
-    ) -> Result<Known, AllocError> {
+    ) -> Result<Known, AllocError>
+        ensures { Keeps (state self.old) (state self.new) }
+    {
         let made = short(self.expressions.alloc, &whole)?;
         let (mut has_long_array, mut is_sized, mut depth) = (false, true, 0);
         for member in &whole.members {
@@ -142,7 +151,9 @@ impl<'t> Checker<'t> {
         &mut self,
         field: &Field,
         is_last: bool,
-    ) -> Result<Option<StructMemberType>, AllocError> {
+    ) -> Result<Option<StructMemberType>, AllocError>
+        ensures { Keeps (state self.old) (state self.new) }
+    {
         let Some(ty) = &field.ty else {
             return Ok(None);
         };
@@ -176,7 +187,9 @@ impl<'t> Checker<'t> {
         place: Place,
         ty: &Type,
         message: &str,
-    ) -> Result<Option<T>, AllocError> {
+    ) -> Result<Option<T>, AllocError>
+        ensures { Keeps (state self.old) (state self.new) }
+    {
         let message = format!(in self.expressions.alloc; "`{ty}` {message}")?;
         self.expressions.fault(rule, place, message)?;
         Ok(None)
@@ -194,7 +207,9 @@ impl<'t> Checker<'t> {
         ty: &Type,
         size: Option<u32>,
         align: Option<u32>,
-    ) -> Result<bool, AllocError> {
+    ) -> Result<bool, AllocError>
+        ensures { Keeps (state self.old) (state self.new) }
+    {
         let (least, needed) = size_and_align(ty);
         let needed = needed.unwrap_or(1).max(1);
         let is_aligned = match align {
@@ -217,7 +232,9 @@ impl<'t> Checker<'t> {
     }
 
     /// What a function with these parameters and this result stands for.
-    pub fn signature(&mut self, named: usize, interface: &Interface) -> Result<Known, AllocError> {
+    pub fn signature(&mut self, named: usize, interface: &Interface) -> Result<Known, AllocError>
+        ensures { Keeps (state self.old) (state self.new) }
+    {
         let attributes = interface.attributes;
         let has_names = self.names_of(&interface.fields)?.is_some();
         let mut parameters = Vec::new(self.expressions.alloc);
@@ -252,7 +269,9 @@ impl<'t> Checker<'t> {
         }))
     }
 
-    fn parameter(&mut self, field: &Field) -> Result<Option<Type>, AllocError> {
+    fn parameter(&mut self, field: &Field) -> Result<Option<Type>, AllocError>
+        ensures { Keeps (state self.old) (state self.new) }
+    {
         let Some(ty) = &field.ty else {
             return Ok(None);
         };
@@ -270,7 +289,9 @@ impl<'t> Checker<'t> {
         Ok(Some(ty.clone(self.expressions.alloc)?))
     }
 
-    fn returned(&mut self, field: &Field) -> Result<Option<Type>, AllocError> {
+    fn returned(&mut self, field: &Field) -> Result<Option<Type>, AllocError>
+        ensures { Keeps (state self.old) (state self.new) }
+    {
         match &field.ty {
             Some(ty) if !is_const_type(ty) => {
                 self.no_field(Rule::Type, field.place, ty, "is not constructible")

@@ -1,11 +1,10 @@
 // Where control goes on from the statements that are open (WGSL, "Behaviors").
-ghost use Rattle.std.specs.Prelude.{◌≡◌, [], ◌∷◌, IfOk, option_map};
-ghost use Rattle.wgsl_module.specs.Flow.{are_none, around_view, begun_on, below, block_on, body_on, clauses_on, ended, first, flow_view, frame_view, if_on, is_block, is_returned, with_body, with_condition, with_continuing, with_else, without_returned};
-ghost use Rattle.wgsl_module.specs.Statements.{switch_opened, with_clause};
-ghost use Rattle.wgsl_module.specs.Views.{behaviour_view};
+ghost use Rattle.std.specs.Prelude.{◌≡◌, [], ◌∷◌, IfOk};
+ghost use Rattle.wgsl_module.specs.Flow.{are_none, begun_on, below, block_on, body_on, clauses_on, ended, first, if_on, is_block, is_returned, opened, statements, with_body, with_condition, with_continuing, with_else, without_returned};
+ghost use Rattle.wgsl_module.specs.Statements.{switch_opened, with_clause, with_default};
 
 use crate::behaviour::Behaviour;
-use crate::frame::{Around, Block, Frame};
+use crate::frame::{Around, Frame};
 use std::alloc::{AllocError, Global};
 use wgsl_reader::kind::Kind;
 
@@ -18,7 +17,7 @@ pub struct Flow {
 impl Flow {
     /// No statement is open.
     pub fn none(alloc: Global) -> Flow
-        ensures { flow_view result ≡ [] }
+        ensures { statements result ≡ [] }
     {
         Flow {
             frames: Vec::new(alloc),
@@ -26,24 +25,19 @@ impl Flow {
     }
 
     pub fn is_empty(&self) -> bool
-        ensures { result ≡ are_none (flow_view self.now) }
+        ensures { result ≡ are_none (statements self.now) }
     {
         self.frames.is_empty()
     }
 
-    /// The innermost.
-    pub fn last(&self) -> Option<Frame> {
-        self.frames.last().copied()
-    }
-
     pub fn clear(&mut self)
-        ensures { flow_view self.new ≡ [] }
+        ensures { statements self.new ≡ [] }
     {
         self.frames.clear();
     }
 
     pub fn push(&mut self, frame: Frame) -> Result<(), AllocError>
-        ensures { IfOk result (λ u. flow_view self.new ≡ frame_view frame ∷ flow_view self.old) }
+        ensures { IfOk result (λ u. statements self.new ≡ frame ∷ statements self.old) }
     {
         self.frames.push(frame)?;
         Ok(())
@@ -51,27 +45,18 @@ impl Flow {
 
     /// Takes the innermost.
     pub fn pop(&mut self) -> Option<Frame>
-        ensures frame { option_map frame_view result ≡ first (flow_view self.old) }
-        ensures rest { flow_view self.new ≡ below (flow_view self.old) }
+        ensures frame { result ≡ first (statements self.old) }
+        ensures rest { statements self.new ≡ below (statements self.old) }
     {
         self.frames.pop()
     }
 
     /// A statement is read: what it does, the block around it does too. In front of a `for`'s body it does nothing.
-    pub fn end(&mut self, behaviour: Behaviour, names: usize) -> Result<(), AllocError>
-        ensures { IfOk result (λ u. flow_view self.new ≡ ended (behaviour_view behaviour) (flow_view self.old)) }
+    pub fn end(&mut self, behaviour: Behaviour) -> Result<(), AllocError>
+        ensures { IfOk result (λ u. statements self.new ≡ ended behaviour (statements self.old)) }
     {
         match self.frames.pop() {
-            Some(Frame::Block(block)) => {
-                let continued = match block.continued {
-                    None if behaviour.has_continue => Some(names),
-                    continued => continued,
-                };
-                self.push(Frame::Block(Block {
-                    behaviour: block.behaviour.followed_by(behaviour),
-                    continued,
-                }))
-            }
+            Some(Frame::Block(before)) => self.push(Frame::Block(before.followed_by(behaviour))),
             Some(Frame::Body(body)) => {
                 self.push(Frame::Body(body))?;
                 self.push(Frame::Body(behaviour))
@@ -83,8 +68,8 @@ impl Flow {
 
     /// Takes the body on top.
     pub fn take_body(&mut self) -> Behaviour
-        ensures behaviour { behaviour_view result ≡ body_on (flow_view self.old) }
-        ensures rest { flow_view self.new ≡ below (flow_view self.old) }
+        ensures behaviour { result ≡ body_on (statements self.old) }
+        ensures rest { statements self.new ≡ below (statements self.old) }
     {
         match self.frames.pop() {
             Some(Frame::Body(behaviour)) => behaviour,
@@ -94,7 +79,7 @@ impl Flow {
 
     /// `else { }`, `else if`: both ways.
     pub fn close_else(&mut self) -> Result<(), AllocError>
-        ensures { IfOk result (λ u. flow_view self.new ≡ with_else (flow_view self.old)) }
+        ensures { IfOk result (λ u. statements self.new ≡ with_else (statements self.old)) }
     {
         let second = self.take_body();
         let first = self.take_body();
@@ -103,35 +88,52 @@ impl Flow {
 
     /// The value behind `switch` is read: it has no clause yet.
     pub fn open_switch(&mut self) -> Result<(), AllocError>
-        ensures { IfOk result (λ u. flow_view self.new ≡ switch_opened (flow_view self.old)) }
+        ensures { IfOk result (λ u. statements self.new ≡ switch_opened (statements self.old)) }
     {
-        self.push(Frame::Choice(Behaviour::NOWHERE))
+        self.push(Frame::Clauses(Behaviour::NOWHERE, false))
     }
 
-    /// Takes the clauses of a `switch`.
-    pub fn take_clauses(&mut self) -> Behaviour
-        ensures behaviour { behaviour_view result ≡ clauses_on (flow_view self.old) }
-        ensures rest { flow_view self.new ≡ below (flow_view self.old) }
+    /// Takes the clauses of a `switch`, and whether one of them is its `default`.
+    pub fn take_clauses(&mut self) -> (Behaviour, bool)
+        ensures clauses { result ≡ clauses_on (statements self.old) }
+        ensures rest { statements self.new ≡ below (statements self.old) }
     {
         match self.frames.pop() {
-            Some(Frame::Choice(behaviour)) => behaviour,
-            _ => Behaviour::NOWHERE,
+            Some(Frame::Clauses(behaviour, has_default)) => (behaviour, has_default),
+            _ => (Behaviour::NOWHERE, false),
         }
     }
 
     /// `case 1 { }`, `default { }`: what any of the clauses does.
     pub fn close_clause(&mut self) -> Result<(), AllocError>
-        ensures { IfOk result (λ u. flow_view self.new ≡ with_clause (flow_view self.old)) }
+        ensures { IfOk result (λ u. statements self.new ≡ with_clause (statements self.old)) }
     {
         let body = self.take_body();
-        let clauses = self.take_clauses();
-        self.push(Frame::Choice(clauses.or(body)))
+        let (behaviour, has_default) = self.take_clauses();
+        self.push(Frame::Clauses(behaviour.or(body), has_default))
+    }
+
+    /// `default` of a `switch`. Returns whether it has one already.
+    pub fn put_default(&mut self) -> Result<bool, AllocError>
+        ensures { IfOk result (λ has. (has ≡ (clauses_on (statements self.old)).1) × (statements self.new ≡ with_default (statements self.old))) }
+    {
+        match self.frames.pop() {
+            Some(Frame::Clauses(behaviour, has_default)) => {
+                self.push(Frame::Clauses(behaviour, true))?;
+                Ok(has_default)
+            }
+            Some(other) => {
+                self.push(other)?;
+                Ok(false)
+            }
+            None => Ok(false),
+        }
     }
 
     /// What an `if` does; without `else` it may go on.
     pub fn take_if(&mut self) -> Behaviour
-        ensures behaviour { behaviour_view result ≡ if_on (flow_view self.old) }
-        ensures rest { flow_view self.new ≡ below (flow_view self.old) }
+        ensures behaviour { result ≡ if_on (statements self.old) }
+        ensures rest { statements self.new ≡ below (statements self.old) }
     {
         match self.frames.pop() {
             Some(Frame::Choice(behaviour)) => behaviour,
@@ -142,28 +144,38 @@ impl Flow {
 
     /// Whether the innermost is a block.
     pub fn is_in_block(&self) -> bool
-        ensures { result ≡ is_block (flow_view self.now) }
+        ensures { result ≡ is_block (statements self.now) }
     {
         matches!(self.frames.last(), Some(Frame::Block(_)))
     }
 
+    /// The `{` of a block, and not the `(` of a call.
+    pub fn open_block(&mut self, bracket: Kind) -> Result<(), AllocError>
+        ensures { IfOk result (λ u. statements self.new ≡ opened bracket (statements self.old)) }
+    {
+        match bracket {
+            Kind::OpenCurly => self.push(Frame::Block(Behaviour::NEXT)),
+            _ => Ok(()),
+        }
+    }
+
     /// Takes the block that is closed: what the statements in it do.
     pub fn take_block(&mut self) -> Option<Behaviour>
-        ensures behaviour { option_map behaviour_view result ≡ block_on (flow_view self.old) }
-        ensures rest { flow_view self.new ≡ below (flow_view self.old) }
+        ensures behaviour { result ≡ block_on (statements self.old) }
+        ensures rest { statements self.new ≡ below (statements self.old) }
     {
         match self.frames.pop() {
-            Some(Frame::Block(block)) => Some(block.behaviour),
+            Some(Frame::Block(behaviour)) => Some(behaviour),
             _ => None,
         }
     }
 
     /// A block that is closed is a statement of the block around it, or the body of what is open.
-    pub fn put_body(&mut self, behaviour: Behaviour, names: usize) -> Result<(), AllocError>
-        ensures { IfOk result (λ u. flow_view self.new ≡ with_body (behaviour_view behaviour) (flow_view self.old)) }
+    pub fn put_body(&mut self, behaviour: Behaviour) -> Result<(), AllocError>
+        ensures { IfOk result (λ u. statements self.new ≡ with_body behaviour (statements self.old)) }
     {
         if self.is_in_block() {
-            self.end(behaviour, names)
+            self.end(behaviour)
         } else {
             self.push(Frame::Body(behaviour))
         }
@@ -171,8 +183,8 @@ impl Flow {
 
     /// Takes the statement on top: its word, what is around it, and whether it has a condition.
     pub fn leave(&mut self) -> Option<(Kind, Around, bool)>
-        ensures begun { option_map (λ b. (b.0, around_view b.1, b.2)) result ≡ begun_on (flow_view self.old) }
-        ensures rest { flow_view self.new ≡ below (flow_view self.old) }
+        ensures begun { result ≡ begun_on (statements self.old) }
+        ensures rest { statements self.new ≡ below (statements self.old) }
     {
         match self.frames.pop() {
             Some(Frame::Begun(word, outside, has_condition)) => {
@@ -184,7 +196,7 @@ impl Flow {
 
     /// The statement on top has a condition: `while c`, `for (; c;)`.
     pub fn put_condition(&mut self) -> Result<(), AllocError>
-        ensures { IfOk result (λ u. flow_view self.new ≡ with_condition (flow_view self.old)) }
+        ensures { IfOk result (λ u. statements self.new ≡ with_condition (statements self.old)) }
     {
         match self.frames.pop() {
             Some(Frame::Begun(word, outside, _)) => self.push(Frame::Begun(word, outside, true)),
@@ -195,13 +207,10 @@ impl Flow {
 
     /// `continuing { }`: the block of the loop does this too.
     pub fn continue_with(&mut self, last: Behaviour) -> Result<(), AllocError>
-        ensures { IfOk result (λ u. flow_view self.new ≡ with_continuing (behaviour_view last) (flow_view self.old)) }
+        ensures { IfOk result (λ u. statements self.new ≡ with_continuing last (statements self.old)) }
     {
         match self.frames.pop() {
-            Some(Frame::Block(block)) => self.push(Frame::Block(Block {
-                behaviour: block.behaviour.continued_by(last),
-                ..block
-            })),
+            Some(Frame::Block(body)) => self.push(Frame::Block(body.continued_by(last))),
             Some(other) => self.push(other),
             None => Ok(()),
         }
@@ -209,7 +218,7 @@ impl Flow {
 
     /// Whether a value stands behind `return`. It is taken.
     pub fn take_returned(&mut self) -> Result<bool, AllocError>
-        ensures { IfOk result (λ is. (is ≡ is_returned (flow_view self.old)) × (flow_view self.new ≡ without_returned (flow_view self.old))) }
+        ensures { IfOk result (λ is. (is ≡ is_returned (statements self.old)) × (statements self.new ≡ without_returned (statements self.old))) }
     {
         match self.frames.pop() {
             Some(Frame::Returned) => Ok(true),

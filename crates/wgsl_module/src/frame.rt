@@ -1,7 +1,8 @@
 // Statements that are open, and what is around them.
+ghost use Rattle.std.specs.Prelude.{◌≡◌};
+ghost use Rattle.wgsl_module.specs.Statements.{broken_off, continued};
 
 use crate::behaviour::Behaviour;
-use wgsl_names::known::Part;
 use wgsl_reader::kind::Kind;
 
 /// What is around a statement.
@@ -10,24 +11,6 @@ pub struct Around {
     pub may_break: bool,
     pub may_continue: bool,
     pub in_continuing: bool,
-    /// The names that a `continue` may skip, by the index of the first and of the one behind the last.
-    pub skipped: (usize, usize),
-}
-
-/// A `switch` so far.
-#[derive(Drop)]
-pub struct Switch {
-    pub selector: Part,
-    pub values: Vec<Part>,
-    pub defaults: usize,
-}
-
-/// A block that is open.
-#[derive(Clone, Copy)]
-pub struct Block {
-    pub behaviour: Behaviour,
-    /// How many names were in scope behind the first statement that may continue the loop.
-    pub continued: Option<usize>,
 }
 
 /// What is read of statements and isn't yet part of another.
@@ -35,11 +18,14 @@ pub struct Block {
 pub enum Frame {
     /// A statement with blocks, by its word; what is around it; whether it has a condition.
     Begun(Kind, Around, bool),
-    Block(Block),
+    /// A block that is open, by what the statements in it do so far.
+    Block(Behaviour),
     /// A block that is closed.
     Body(Behaviour),
-    /// An `if` with its `else`, or the clauses of a `switch` so far.
+    /// An `if` with its `else`.
     Choice(Behaviour),
+    /// The clauses of a `switch` so far, and whether one of them is its `default`.
+    Clauses(Behaviour, bool),
     /// The value behind `return` is read.
     Returned,
 }
@@ -50,6 +36,29 @@ impl Around {
         may_break: false,
         may_continue: false,
         in_continuing: false,
-        skipped: (0, 0),
     };
+
+    /// What `break;` does here: one that would end a loop from its `continuing` what `break if` does, another wrong one nothing.
+    pub fn on_break(self) -> Behaviour
+        ensures { result ≡ broken_off self }
+    {
+        if self.may_break {
+            Behaviour::BREAK
+        } else if self.in_continuing {
+            Behaviour::MAY_BREAK
+        } else {
+            Behaviour::NEXT
+        }
+    }
+
+    /// What `continue;` does here: a wrong one nothing.
+    pub fn on_continue(self) -> Behaviour
+        ensures { result ≡ continued self }
+    {
+        if self.may_continue {
+            Behaviour::CONTINUE
+        } else {
+            Behaviour::NEXT
+        }
+    }
 }

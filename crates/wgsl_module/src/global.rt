@@ -1,5 +1,8 @@
 // Values that a module declares: `const`, `override` and `var` (WGSL, "Value Declarations", "Variable Declarations"), and the
 // numbers that tell them apart. Only tested.
+ghost use Rattle.std.specs.Prelude.{◌≡◌, IfOk};
+ghost use Rattle.wgsl_module.specs.Noted.{Keeps, reading, standing, state};
+ghost use Rattle.wgsl_typing.specs.Stacks.{below_space};
 
 use crate::attribute::{Attributes, Name};
 use crate::checker::Checker;
@@ -15,6 +18,9 @@ use wgsl_syntax::address::{AccessMode, AddressSpace};
 use wgsl_typing::count::has_override_count;
 use wgsl_typing::declared::Declared;
 
+/// What stands between `var<` and `>`, with an access mode if that is said; None if it has a fault.
+type Space = Option<(AddressSpace, Option<AccessMode>)>;
+
 impl<'t> Checker<'t> {
     /// `const`, `override` and `var` of a module.
     pub fn read_value(
@@ -22,28 +28,16 @@ impl<'t> Checker<'t> {
         kind: DeclarationKind,
         named: usize,
         attributes: Attributes,
-    ) -> Result<Known, AllocError> {
-        let part = match kind {
-            DeclarationKind::Const => Some(self.expressions.take_part()?),
-            _ => self.expressions.take_initializer()?,
-        };
-        let declared = self.expressions.take_declared();
+    ) -> Result<Known, AllocError>
+        ensures { IfOk result (λ x. (state self.new).declarations ≡ (state self.old).declarations) }
+    {
+        let part = self.value_part(kind)?;
+        let declared = self.expressions.take_declared()?;
         self.expressions.take_name();
         if kind == DeclarationKind::Override {
             self.check_id(named, attributes)?;
         }
-        let typed = match (kind, &part) {
-            (DeclarationKind::Variable, _) => {
-                self.module_variable(named, part.as_ref(), &declared, attributes)?
-            }
-            (DeclarationKind::Override, None) => self.constant_without_value(named, &declared)?,
-            (DeclarationKind::Override, Some(part)) => {
-                self.expressions
-                    .typed_value(Form::Override, part, &declared)?
-            }
-            (_, Some(part)) => self.expressions.typed_value(Form::Const, part, &declared)?,
-            (_, None) => None,
-        };
+        let typed = self.value_typed(kind, named, part.as_ref(), &declared, attributes)?;
         if let Some(part) = part {
             self.expressions.note(part)?;
         }
@@ -53,8 +47,43 @@ impl<'t> Checker<'t> {
         }
     }
 
+    /// The expression behind the `=`.
+    fn value_part(&mut self, kind: DeclarationKind) -> Result<Option<Part>, AllocError>
+        ensures { IfOk result (λ x. (state self.new).declarations ≡ (state self.old).declarations) }
+    {
+        match kind {
+            DeclarationKind::Const => Ok(Some(self.expressions.take_part()?)),
+            _ => self.expressions.take_initializer(),
+        }
+    }
+
+    fn value_typed(
+        &mut self,
+        kind: DeclarationKind,
+        named: usize,
+        part: Option<&Part>,
+        declared: &Declared,
+        attributes: Attributes,
+    ) -> Result<Option<Typed>, AllocError>
+        ensures { IfOk result (λ x. (state self.new).declarations ≡ (state self.old).declarations) }
+    {
+        match (kind, part) {
+            (DeclarationKind::Variable, _) => {
+                self.module_variable(named, part, declared, attributes)
+            }
+            (DeclarationKind::Override, None) => self.constant_without_value(named, declared),
+            (DeclarationKind::Override, Some(part)) => {
+                self.expressions.typed_value(Form::Override, part, declared)
+            }
+            (_, Some(part)) => self.expressions.typed_value(Form::Const, part, declared),
+            (_, None) => Ok(None),
+        }
+    }
+
     /// The number of an override stands once, and is at most 65,535.
-    fn check_id(&mut self, named: usize, attributes: Attributes) -> Result<(), AllocError> {
+    fn check_id(&mut self, named: usize, attributes: Attributes) -> Result<(), AllocError>
+        ensures { Keeps (state self.old) (state self.new) }
+    {
         let Some(id) = self.integer(attributes, Name::Id) else {
             return Ok(());
         };
@@ -71,7 +100,9 @@ impl<'t> Checker<'t> {
         &mut self,
         named: usize,
         declared: &Declared,
-    ) -> Result<Option<Typed>, AllocError> {
+    ) -> Result<Option<Typed>, AllocError>
+        ensures { Keeps (state self.old) (state self.new) }
+    {
         match declared {
             Declared::Type(ty) => {
                 let refusal = override_without_value(ty).err();
@@ -95,33 +126,57 @@ impl<'t> Checker<'t> {
         part: Option<&Part>,
         declared: &Declared,
         attributes: Attributes,
-    ) -> Result<Option<Typed>, AllocError> {
-        let (space, access) = match self.expressions.take_space() {
+    ) -> Result<Option<Typed>, AllocError>
+        ensures { IfOk result (λ x. reading (state self.new) ≡ standing (below_space (state self.old).stack.items) (state self.old)) }
+    {
+        let space = self.expressions.take_space();
+        self.variable_in(space, named, part, declared, attributes)
+    }
+
+    /// The variable in this address space, or in what stands in its place; None if that is told or has a fault.
+    fn variable_in(
+        &mut self,
+        space: Option<Space>,
+        named: usize,
+        part: Option<&Part>,
+        declared: &Declared,
+        attributes: Attributes,
+    ) -> Result<Option<Typed>, AllocError>
+        ensures { Keeps (state self.old) (state self.new) }
+    {
+        let (space, access) = match space {
             Some(Some(space)) => space,
             Some(None) => return Ok(None),
             None if self.may_be_handle(named, part, declared)? => (AddressSpace::Handle, None),
             None => return Ok(None),
         };
-        if space == AddressSpace::Function {
-            let message = "is in the module, and so not in `function`";
-            return self.expressions.nothing(Rule::Type, named, message);
-        }
-        if access.is_some() && space != AddressSpace::Storage {
-            let message = "says an access mode, which only `storage` does";
+        if let Some(message) = wrong_space(space, access) {
             return self.expressions.nothing(Rule::Type, named, message);
         }
         let typed = self
             .expressions
             .variable(space, access, named, part, declared)?;
-        let is_fine = match &typed {
-            Some(typed) => {
-                self.may_lie_in(space, named, typed)?
-                    && attributes.are_fine
-                    && self.is_bound(named, space, attributes)?
-            }
-            None => false,
+        let Some(typed) = typed else {
+            return Ok(None);
         };
-        Ok(if is_fine { typed } else { None })
+        let is_placed = self.is_placed(space, named, &typed, attributes)?;
+        Ok(if is_placed { Some(typed) } else { None })
+    }
+
+    /// Whether a variable may lie in its address space, and has the attributes of one there.
+    fn is_placed(
+        &mut self,
+        space: AddressSpace,
+        named: usize,
+        variable: &Typed,
+        attributes: Attributes,
+    ) -> Result<bool, AllocError>
+        ensures { Keeps (state self.old) (state self.new) }
+    {
+        if !self.may_lie_in(space, named, variable)? || !attributes.are_fine {
+            return Ok(false);
+        }
+        self.is_bound(named, space, attributes)
     }
 
     /// Whether a variable without an address space may be a handle. If it can't, that is told.
@@ -130,7 +185,9 @@ impl<'t> Checker<'t> {
         named: usize,
         part: Option<&Part>,
         declared: &Declared,
-    ) -> Result<bool, AllocError> {
+    ) -> Result<bool, AllocError>
+        ensures { Keeps (state self.old) (state self.new) }
+    {
         let may_be_handle = match declared {
             Declared::Type(ty) => holds(AddressSpace::Handle, AccessMode::Read, ty),
             Declared::No => part.is_none(),
@@ -148,7 +205,9 @@ impl<'t> Checker<'t> {
         space: AddressSpace,
         named: usize,
         variable: &Typed,
-    ) -> Result<bool, AllocError> {
+    ) -> Result<bool, AllocError>
+        ensures { Keeps (state self.old) (state self.new) }
+    {
         let held = behind(&variable.ty);
         match space {
             AddressSpace::Workgroup => self.expressions.is_short(named, held),
@@ -165,7 +224,9 @@ impl<'t> Checker<'t> {
         named: usize,
         space: AddressSpace,
         attributes: Attributes,
-    ) -> Result<bool, AllocError> {
+    ) -> Result<bool, AllocError>
+        ensures { Keeps (state self.old) (state self.new) }
+    {
         let group = self.integer(attributes, Name::Group);
         let binding = self.integer(attributes, Name::Binding);
         if let (Some(group), Some(binding)) = (group, binding) {
@@ -185,5 +246,16 @@ impl<'t> Checker<'t> {
             (false, _, _) => "is no resource, and has no @group or @binding",
         };
         self.expressions.no(Rule::Binding, named, message)
+    }
+}
+
+/// What is wrong with the address space of a variable of a module, and with its access mode.
+fn wrong_space(space: AddressSpace, access: Option<AccessMode>) -> Option<&'static str> {
+    if space == AddressSpace::Function {
+        Some("is in the module, and so not in `function`")
+    } else if access.is_some() && space != AddressSpace::Storage {
+        Some("says an access mode, which only `storage` does")
+    } else {
+        None
     }
 }

@@ -1,7 +1,8 @@
 // What entry points take and return (WGSL, "Entry Points", "Built-in Values", "Input-output Locations"). Only tested.
+ghost use Rattle.wgsl_module.specs.Noted.{Keeps, state};
 
 use crate::attribute::{Attributes, Name};
-use crate::checker::{Checker, Interface};
+use crate::checker::Checker;
 use crate::field::Field;
 use std::alloc::AllocError;
 use std::collections::BTreeSet;
@@ -96,7 +97,9 @@ impl<'t> Checker<'t> {
         is_input: bool,
         named: usize,
         fields: &[Field],
-    ) -> Result<bool, AllocError> {
+    ) -> Result<bool, AllocError>
+        ensures { Keeps (state self.old) (state self.new) }
+    {
         let mut side = Side {
             stage,
             is_input,
@@ -116,7 +119,9 @@ impl<'t> Checker<'t> {
     }
 
     /// Whether nothing is wrong with a member, a parameter or a result. Otherwise that is told.
-    fn is_right(&mut self, field: &Field, trouble: Option<Trouble>) -> Result<bool, AllocError> {
+    fn is_right(&mut self, field: &Field, trouble: Option<Trouble>) -> Result<bool, AllocError>
+        ensures { Keeps (state self.old) (state self.new) }
+    {
         match trouble {
             None => return Ok(true),
             Some(Trouble::Type(message)) => self.tell(Rule::EntryPoint, field.place, message)?,
@@ -144,7 +149,9 @@ impl<'t> Checker<'t> {
         field: &Field,
         count: usize,
         spelled: &str,
-    ) -> Result<(), AllocError> {
+    ) -> Result<(), AllocError>
+        ensures { Keeps (state self.old) (state self.new) }
+    {
         let Some(ty) = &field.ty else {
             return Ok(());
         };
@@ -157,7 +164,9 @@ impl<'t> Checker<'t> {
     }
 
     /// What attributes ask of the type of a member, a parameter or a result, whoever uses it.
-    pub fn check_io(&mut self, field: &Field, ty: &Type) -> Result<bool, AllocError> {
+    pub fn check_io(&mut self, field: &Field, ty: &Type) -> Result<bool, AllocError>
+        ensures { Keeps (state self.old) (state self.new) }
+    {
         let trouble = self.trouble_of(field.attributes, ty);
         self.is_right(field, trouble)
     }
@@ -217,7 +226,9 @@ impl<'t> Checker<'t> {
     }
 
     /// No two members of a struct have one `@location`.
-    pub fn check_locations(&mut self, fields: &[Field]) -> Result<bool, AllocError> {
+    pub fn check_locations(&mut self, fields: &[Field]) -> Result<bool, AllocError>
+        ensures { Keeps (state self.old) (state self.new) }
+    {
         let mut seen = BTreeSet::new(self.expressions.alloc);
         for field in fields {
             if !self.is_free(&mut seen, field.attributes)? {
@@ -240,7 +251,9 @@ impl<'t> Checker<'t> {
     }
 
     /// A parameter or a result: a value, or a struct of values.
-    fn carry(&mut self, side: &mut Side<'t>, field: &Field) -> Result<bool, AllocError> {
+    fn carry(&mut self, side: &mut Side<'t>, field: &Field) -> Result<bool, AllocError>
+        ensures { Keeps (state self.old) (state self.new) }
+    {
         let Some(ty) = &field.ty else {
             return Ok(true);
         };
@@ -272,23 +285,14 @@ impl<'t> Checker<'t> {
         Ok(is_fine)
     }
 
-    /// Takes what is known of a declaration beside its name's meaning; `keep` gives it back.
-    pub fn take_interface(&mut self, index: usize) -> Option<Interface> {
-        self.interfaces.get_mut(index)?.take()
-    }
-
-    pub fn keep(&mut self, index: usize, interface: Interface) {
-        if let Some(place) = self.interfaces.get_mut(index) {
-            *place = Some(interface);
-        }
-    }
-
     fn carry_value(
         &mut self,
         side: &mut Side<'t>,
         field: &Field,
         ty: &Type,
-    ) -> Result<bool, AllocError> {
+    ) -> Result<bool, AllocError>
+        ensures { Keeps (state self.old) (state self.new) }
+    {
         let of = field.attributes;
         let trouble = match (
             self.name_in(of, Name::Builtin),

@@ -1,9 +1,8 @@
 // Declarations in functions (WGSL, "Value Declarations", "Variable Declarations").
 ghost use Rattle.std.specs.Prelude.{◌≡◌, IfOk};
-ghost use Rattle.wgsl_module.specs.Behaviours.{goes_on};
-ghost use Rattle.wgsl_module.specs.Flow.{ended, flow_view};
+ghost use Rattle.wgsl_module.specs.Noted.{DeclaresValue, DeclaresVariable, Keeps, reading, standing, state};
+ghost use Rattle.wgsl_typing.specs.Stacks.{below_space};
 
-use crate::behaviour::Behaviour;
 use crate::checker::Checker;
 use std::alloc::AllocError;
 use wgsl_forms::declare::Declaration;
@@ -14,16 +13,7 @@ use wgsl_syntax::address::AddressSpace;
 impl<'t> Checker<'t> {
     /// Gives a value its name in the innermost block.
     fn bind(&mut self, named: usize, typed: Option<Typed>) -> Result<(), AllocError>
-        ensures flow { IfOk result (λ u. flow_view self.new.flow ≡ ended goes_on (flow_view self.old.flow)) }
-        ensures around { self.new.around ≡ self.old.around }
-    {
-        self.declare_local(named, typed)?;
-        self.end(Behaviour::NEXT)
-    }
-
-    fn declare_local(&mut self, named: usize, typed: Option<Typed>) -> Result<(), AllocError>
-        ensures flow { self.new.flow ≡ self.old.flow }
-        ensures around { self.new.around ≡ self.old.around }
+        ensures { Keeps (state self.old) (state self.new) }
     {
         let name = self.word(named);
         if self.expressions.locals.is_here(name) {
@@ -39,11 +29,10 @@ impl<'t> Checker<'t> {
 
     /// `let x = y;`, `const x: T = y;`
     pub fn declare_value(&mut self, declaration: Declaration) -> Result<(), AllocError>
-        ensures flow { IfOk result (λ u. flow_view self.new.flow ≡ ended goes_on (flow_view self.old.flow)) }
-        ensures around { self.new.around ≡ self.old.around }
+        ensures { IfOk result (λ u. DeclaresValue (state self.old) (state self.new)) }
     {
         let part = self.expressions.take_part()?;
-        let declared = self.expressions.take_declared();
+        let declared = self.expressions.take_declared()?;
         let named = self.expressions.take_name();
         let typed = self.expressions.typed_value(declaration, &part, &declared)?;
         self.expressions.note(part)?;
@@ -52,8 +41,7 @@ impl<'t> Checker<'t> {
 
     /// `var x: T = y;`
     pub fn declare_variable(&mut self) -> Result<(), AllocError>
-        ensures flow { IfOk result (λ u. flow_view self.new.flow ≡ ended goes_on (flow_view self.old.flow)) }
-        ensures around { self.new.around ≡ self.old.around }
+        ensures { IfOk result (λ u. DeclaresVariable (state self.old) (state self.new)) }
     {
         let (named, typed) = self.read_variable()?;
         self.bind(named, typed)
@@ -61,11 +49,10 @@ impl<'t> Checker<'t> {
 
     /// The name of a variable, and what it is if it has no fault.
     fn read_variable(&mut self) -> Result<(usize, Option<Typed>), AllocError>
-        ensures flow { self.new.flow ≡ self.old.flow }
-        ensures around { self.new.around ≡ self.old.around }
+        ensures { IfOk result (λ x. DeclaresVariable (state self.old) (state self.new)) }
     {
         let part = self.expressions.take_initializer()?;
-        let declared = self.expressions.take_declared();
+        let declared = self.expressions.take_declared()?;
         let named = self.expressions.take_name();
         let is_allowed = self.is_in_function(named)?;
         let typed = self.expressions.variable(
@@ -87,8 +74,7 @@ impl<'t> Checker<'t> {
 
     /// A variable of a function lies in `function`.
     fn is_in_function(&mut self, named: usize) -> Result<bool, AllocError>
-        ensures flow { self.new.flow ≡ self.old.flow }
-        ensures around { self.new.around ≡ self.old.around }
+        ensures { IfOk result (λ is. reading (state self.new) ≡ standing (below_space (state self.old).stack.items) (state self.old)) }
     {
         match self.expressions.take_space() {
             None | Some(Some((AddressSpace::Function, None))) => Ok(true),

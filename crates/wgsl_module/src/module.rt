@@ -1,8 +1,17 @@
 // The check of a module.
+ghost use Rattle.std.specs.Prelude.{◌≡◌, [], IfOk, map, slice_get, true};
+ghost use Rattle.wgsl_module.specs.Checked.{AreTyped, IsRead, TellsReading, are_known, told_of_reading};
+ghost use Rattle.wgsl_module.specs.Noted.{Keeps, Reading, reading, state};
+ghost use Rattle.wgsl_module.specs.Runs.{AreBodies};
+ghost use Rattle.wgsl_module.specs.Told.{AreTold, broken};
 
 use crate::attribute::{Attributes, Owner};
 use crate::checker::{Checker, Interface};
+use crate::control::faults_of_control;
 use crate::declaration::{Declaration, DeclarationKind, declarations};
+use crate::misread::faults_of_misread;
+use crate::told::{in_order, joined};
+use crate::untyped::{are_known, tell_untyped};
 use crate::walk::Link;
 use std::alloc::{AllocError, Global};
 use wgsl_names::fault::{Fault, Place, Rule};
@@ -38,10 +47,16 @@ pub fn check<'t>(
     alloc: Global,
     given: Vec<(&'t str, Known)>,
     text: &'t str,
-) -> Result<Checked, AllocError> {
+) -> Result<Checked, AllocError>
+    ensures reading { IfOk result (λ c. TellsReading c.tokens.items c.faults.items) }
+    ensures read { IfOk result (λ c. c.faults.items ≡ [] → IsRead c.tokens.items) }
+    ensures typed { IfOk result (λ c. are_known given.entry.items ≡ true → c.faults.items ≡ [] → AreTyped c.parts.items) }
+{
     let tokens = tokens(alloc, text.as_bytes())?;
     let grammar = read_module(alloc, &tokens)?;
+    let is_known = are_known(&given);
     let mut checked = read_all(alloc, given, text, &tokens, &grammar)?;
+    tell_untyped(alloc, is_known, &checked.parts, &mut checked.faults)?;
     let Module { misread, .. } = grammar;
     checked.tokens = tokens;
     checked.misread = misread;
@@ -55,25 +70,27 @@ fn read_all<'t>(
     text: &'t str,
     tokens: &'t [Token],
     grammar: &'t Module,
-) -> Result<Checked, AllocError> {
+) -> Result<Checked, AllocError>
+    ensures { IfOk result (λ c. AreTold (told_of_reading tokens.now grammar.now.events.items grammar.now.misread.items) c.faults.items) }
+{
     let mut checker = Checker::none(alloc, text, tokens);
     checker.declarations = declarations(alloc, &grammar.events)?;
-    checker.misread(&grammar.misread)?;
-    checker.check_all(given)?;
+    checker.declare_misread(&grammar.misread)?;
+    checker.check_all(tokens, given)?;
     let Checker { expressions, .. } = checker;
     let Expressions {
         parts,
-        mut faults,
+        faults,
         declared,
         override_counts,
         locals,
         ..
     } = expressions;
-    faults.sort_unstable_by_key(|fault| fault.place.from);
     let Locals { closed, .. } = locals;
+    let own = faults_of_reading(alloc, text, tokens, grammar)?;
     Ok(Checked {
         parts,
-        faults: distinct(alloc, faults)?,
+        faults: in_order(alloc, faults, own)?,
         tokens: Vec::new(alloc),
         misread: Vec::new(alloc),
         counts: override_counts,
@@ -82,35 +99,19 @@ fn read_all<'t>(
     })
 }
 
-/// The faults without those that are told again, as of a struct that two entry points use.
-fn distinct(alloc: Global, faults: Vec<Fault>) -> Result<Vec<Fault>, AllocError> {
-    let mut kept: Vec<Fault> = Vec::with_capacity(alloc, faults.len())?;
-    for fault in faults {
-        if !is_told(&kept, &fault) {
-            kept.push(fault)?;
-        }
-    }
-    Ok(kept)
-}
-
-/// Whether one of the last faults, which begin where this one does, says as much.
-fn is_told(kept: &[Fault], fault: &Fault) -> bool {
-    for told in kept.iter().rev() {
-        if told.place.from != fault.place.from {
-            return false;
-        }
-        if is_again(told, fault) {
-            return true;
-        }
-    }
-    false
-}
-
-/// Whether a fault says no more than another one: what can't be used in a stage is told of one entry point.
-fn is_again(told: &Fault, fault: &Fault) -> bool {
-    told.rule == fault.rule
-        && told.place.to == fault.place.to
-        && (fault.rule == Rule::Stage || told.message.as_str() == fault.message.as_str())
+/// What is told of a module by what the grammar reads of it alone.
+fn faults_of_reading(
+    alloc: Global,
+    text: &str,
+    tokens: &[Token],
+    grammar: &Module,
+) -> Result<Vec<Fault>, AllocError>
+    ensures { IfOk result (λ faults. map broken faults.items
+        ≡ told_of_reading tokens.now grammar.now.events.items grammar.now.misread.items) }
+{
+    let misread = faults_of_misread(alloc, Text { text, tokens }, &grammar.misread)?;
+    let control = faults_of_control(alloc, tokens, &grammar.events)?;
+    joined(misread, control)
 }
 
 /// A text that has a fault as a whole, at some bytes.
@@ -144,70 +145,53 @@ pub fn unreadable(
 }
 
 impl<'t> Checker<'t> {
-    /// What the grammar doesn't read: its fault, and the name that it would declare.
-    fn misread(&mut self, all: &[Misread]) -> Result<(), AllocError> {
-        for misread in all {
-            let count = misread.at.saturating_add(1);
-            let text = Text {
-                text: self.expressions.text,
-                tokens: self.expressions.tokens,
-            };
-            let message = match text.strange(text.token(misread.at)) {
-                Some(cause) => cause.text(),
-                None => "this can't stand here",
-            };
-            self.tell_last(Rule::Syntax, count, message)?;
-            if let Some(named) = self.misread_name(*misread) {
-                self.declarations.push(Declaration {
-                    kind: DeclarationKind::Misread,
-                    named: Some(named),
-                    events: &[],
-                    body: &[],
-                })?;
-            }
-        }
-        Ok(())
+    fn check_all(
+        &mut self,
+        tokens: &[Token],
+        given: Vec<(&'t str, Known)>,
+    ) -> Result<(), AllocError>
+        ensures { IfOk result (λ u. (between : Reading) × AreBodies tokens.now self.old.declarations.items between (reading (state self.new))) }
+    {
+        self.declare_all(tokens, given)?;
+        self.read_bodies(tokens)?;
+        self.check_calls()?;
+        self.check_entry_points()
     }
 
-    /// The name of a misread declaration: the first one behind the word that begins it.
-    fn misread_name(&self, misread: Misread) -> Option<usize> {
-        for index in misread.from..misread.at {
-            if matches!(
-                self.expressions.token(index).kind,
-                Kind::Alias | Kind::Struct | Kind::Const | Kind::Override | Kind::Var | Kind::Fn
-            ) {
-                let named = index.saturating_add(2);
-                return match self.expressions.token_before(named).kind {
-                    Kind::Name => Some(named),
-                    _ => None,
-                };
-            }
-        }
-        None
-    }
-
-    fn check_all(&mut self, given: Vec<(&'t str, Known)>) -> Result<(), AllocError> {
-        let count = self.declarations.len();
+    /// Reads the declarations, each behind those that it needs.
+    fn declare_all(
+        &mut self,
+        tokens: &[Token],
+        given: Vec<(&'t str, Known)>,
+    ) -> Result<(), AllocError>
+        ensures { IfOk result (λ u. (state self.new).declarations ≡ (state self.old).declarations) }
+    {
         self.name_all()?;
         for (name, known) in given {
             self.give(name, known)?;
         }
-        let named = self.walk(0, count, Link::Name)?;
+        let named = self.walk(0, self.declarations.len(), Link::Name)?;
         for index in &named.order {
-            self.declare(*index)?;
+            self.declare(tokens, *index)?;
         }
-        for index in 0..count {
-            self.read_body(index)?;
-        }
-        let called = self.walk(0, count, Link::Call)?;
+        Ok(())
+    }
+
+    /// Says which functions call themselves.
+    fn check_calls(&mut self) -> Result<(), AllocError>
+        ensures { Keeps (state self.old) (state self.new) }
+    {
+        let called = self.walk(0, self.declarations.len(), Link::Call)?;
         for (callee, place) in &called.cycles {
             self.tell(Rule::Cycle, *place, "this function calls itself")?;
             self.refer(*callee)?;
         }
-        self.check_entry_points()
+        Ok(())
     }
 
-    pub fn declaration(&self, index: usize) -> Option<Declaration<'t>> {
+    pub fn declaration(&self, index: usize) -> Option<Declaration<'t>>
+        ensures { result ≡ slice_get self.now.declarations.items index }
+    {
         self.declarations.get(index).copied()
     }
 
@@ -217,7 +201,9 @@ impl<'t> Checker<'t> {
     }
 
     /// Adds to the last fault where a declaration is.
-    fn refer(&mut self, index: usize) -> Result<(), AllocError> {
+    fn refer(&mut self, index: usize) -> Result<(), AllocError>
+        ensures { Keeps (state self.old) (state self.new) }
+    {
         match self.named(index) {
             Some(named) => self.expressions.refer(named),
             None => Ok(()),
@@ -225,7 +211,9 @@ impl<'t> Checker<'t> {
     }
 
     /// Gives the declarations their names. If two have one name, the first keeps it.
-    fn name_all(&mut self) -> Result<(), AllocError> {
+    fn name_all(&mut self) -> Result<(), AllocError>
+        ensures { Keeps (state self.old) (state self.new) }
+    {
         for index in 0..self.declarations.len() {
             let named = self.named(index);
             self.expressions
@@ -249,7 +237,9 @@ impl<'t> Checker<'t> {
     }
 
     /// Gives a name this meaning, unless it has another one.
-    fn give(&mut self, name: &'t str, known: Known) -> Result<(), AllocError> {
+    fn give(&mut self, name: &'t str, known: Known) -> Result<(), AllocError>
+        ensures { Keeps (state self.old) (state self.new) }
+    {
         let index = self.expressions.declared.len();
         self.expressions.declared.push(Named {
             named: None,
@@ -262,24 +252,40 @@ impl<'t> Checker<'t> {
     }
 
     /// Reads a declaration behind those that it needs.
-    fn declare(&mut self, index: usize) -> Result<(), AllocError> {
+    fn declare(&mut self, tokens: &[Token], index: usize) -> Result<(), AllocError>
+        ensures { IfOk result (λ u. (state self.new).declarations ≡ (state self.old).declarations) }
+    {
         let Some(declaration) = self.declaration(index) else {
             return Ok(());
         };
         self.expressions.items.clear();
         let known = match declaration.kind {
             DeclarationKind::Enable | DeclarationKind::Directive => {
-                self.read_directive(declaration)?;
+                self.read_directive(tokens, declaration)?;
                 Known::Faulty
             }
             DeclarationKind::Misread => Known::Faulty,
-            _ => self.read_declaration(index, declaration)?,
+            _ => self.read_declaration(tokens, index, declaration)?,
         };
         self.expressions.put_known(index, Some(known));
         Ok(())
     }
 
-    fn read_directive(&mut self, declaration: Declaration<'t>) -> Result<(), AllocError> {
+    fn read_directive(
+        &mut self,
+        tokens: &[Token],
+        declaration: Declaration<'t>,
+    ) -> Result<(), AllocError>
+        ensures { IfOk result (λ u. (state self.new).declarations ≡ (state self.old).declarations) }
+    {
+        self.tell_extensions(declaration)?;
+        self.steps(tokens, declaration.events)
+    }
+
+    /// Enables extensions, and says which names are none.
+    fn tell_extensions(&mut self, declaration: Declaration<'t>) -> Result<(), AllocError>
+        ensures { Keeps (state self.old) (state self.new) }
+    {
         for event in declaration.events {
             let name = self.word(event.at);
             let is_known = match (event.mark, declaration.kind) {
@@ -298,11 +304,17 @@ impl<'t> Checker<'t> {
                 self.suggest(event.at, Cause::UnknownExtension(kind))?;
             }
         }
-        self.steps(declaration.events)
+        Ok(())
     }
 
     /// Reads the events of a declaration. Returns its attributes.
-    fn read_events(&mut self, declaration: Declaration<'t>) -> Result<Attributes, AllocError> {
+    fn read_events(
+        &mut self,
+        tokens: &[Token],
+        declaration: Declaration<'t>,
+    ) -> Result<Attributes, AllocError>
+        ensures { IfOk result (λ u. (state self.new).declarations ≡ (state self.old).declarations) }
+    {
         let (events, named) = (declaration.events, declaration.named.unwrap_or(0));
         let split = events.partition_point(|event| event.at < named);
         self.owner = match declaration.kind {
@@ -310,7 +322,8 @@ impl<'t> Checker<'t> {
             DeclarationKind::Override => Owner::Override,
             _ => Owner::Function,
         };
-        self.steps(events.get(..split).unwrap_or(&[]))?;
+        self.filters.clear();
+        self.steps(tokens, events.get(..split).unwrap_or(&[]))?;
         let attributes = self.take_attributes();
         self.owner = match declaration.kind {
             DeclarationKind::Struct => Owner::Member,
@@ -322,17 +335,20 @@ impl<'t> Checker<'t> {
             result: None,
             attributes,
         });
-        self.steps(events.get(split..).unwrap_or(&[]))?;
+        self.steps(tokens, events.get(split..).unwrap_or(&[]))?;
         Ok(attributes)
     }
 
     fn read_declaration(
         &mut self,
+        tokens: &[Token],
         index: usize,
         declaration: Declaration<'t>,
-    ) -> Result<Known, AllocError> {
+    ) -> Result<Known, AllocError>
+        ensures { IfOk result (λ u. (state self.new).declarations ≡ (state self.old).declarations) }
+    {
         let named = declaration.named.unwrap_or(0);
-        let attributes = self.read_events(declaration)?;
+        let attributes = self.read_events(tokens, declaration)?;
         match declaration.kind {
             DeclarationKind::Alias => {
                 match self.expressions.take_type()? {

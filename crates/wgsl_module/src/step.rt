@@ -1,24 +1,42 @@
 // What is done where something is noted.
+ghost use Rattle.std.specs.Prelude.{◌≡◌, IfOk};
+ghost use Rattle.wgsl_module.specs.Noted.{Comes, Does, Keeps, Statement, state};
 
-use crate::behaviour::Behaviour;
 use crate::checker::Checker;
 use std::alloc::AllocError;
 use wgsl_forms::declare::Declaration;
+use wgsl_reader::kind::Kind;
 use wgsl_reader::mark::Mark;
 use wgsl_reader::read::Event;
+use wgsl_reader::token::Token;
+use wgsl_typing::expressions::kind_before;
 
 impl<'t> Checker<'t> {
     /// Does what events say, one by one.
-    pub fn steps(&mut self, events: &[Event]) -> Result<(), AllocError> {
+    pub fn steps(&mut self, tokens: &[Token], events: &[Event]) -> Result<(), AllocError>
+        ensures events { IfOk result (λ u. Comes tokens.now events.now (state self.old) (state self.new)) }
+        ensures declarations { IfOk result (λ u. (state self.new).declarations ≡ (state self.old).declarations) }
+    {
         for event in events {
-            if !self.expressions.step(*event)? {
-                self.step(*event)?;
-            }
+            self.step(kind_before(tokens, event.at), *event)?;
         }
         Ok(())
     }
 
-    fn step(&mut self, event: Event) -> Result<(), AllocError> {
+    /// Does what an event says whose last token is of this kind.
+    fn step(&mut self, word: Kind, event: Event) -> Result<(), AllocError>
+        ensures { IfOk result (λ u. Does word event.mark event.at (state self.old) (state self.new)) }
+    {
+        if self.expressions.step(word, event)? {
+            return Ok(());
+        }
+        self.step_of_statement(word, event)
+    }
+
+    fn step_of_statement(&mut self, word: Kind, event: Event) -> Result<(), AllocError>
+        ensures statement { IfOk result (λ u. Statement event.mark event.at (state self.old) (state self.new)) }
+        ensures declarations { IfOk result (λ u. (state self.new).declarations ≡ (state self.old).declarations) }
+    {
         let count = event.at;
         match event.mark {
             Mark::AttributeName => self.open_attribute(count),
@@ -26,13 +44,6 @@ impl<'t> Checker<'t> {
             Mark::Severity => self.put_severity(count),
             Mark::Member | Mark::Parameter => self.put_field(),
             Mark::Result => self.put_result(),
-            _ => self.step_of_statement(event),
-        }
-    }
-
-    fn step_of_statement(&mut self, event: Event) -> Result<(), AllocError> {
-        let count = event.at;
-        match event.mark {
             Mark::Let => self.declare_value(Declaration::Let),
             Mark::Const => self.declare_value(Declaration::Const),
             Mark::Variable => self.declare_variable(),
@@ -43,33 +54,31 @@ impl<'t> Checker<'t> {
             Mark::Phony => self.step_or_discard(false),
             Mark::CallStatement => self.call_statement(),
             Mark::Discard => self.discard(count),
-            Mark::Break => self.jump(count, Behaviour::BREAK),
-            Mark::Continue => self.jump(count, Behaviour::CONTINUE),
             Mark::Returned => self.put_returned(),
-            Mark::Return => self.return_value(count),
-            _ => self.step_of_block(event),
+            Mark::Condition | Mark::BreakIf => self.put_condition(),
+            Mark::Selector => self.open_switch(),
+            Mark::CaseSelector => self.put_case_value(),
+            Mark::Switch => self.close_switch(),
+            Mark::Begin => self.begin(word),
+            Mark::Open => self.open_block(),
+            Mark::Block => self.close_block(),
+            mark => self.step_of_loop(mark),
         }
     }
 
-    fn step_of_block(&mut self, event: Event) -> Result<(), AllocError> {
-        let count = event.at;
-        match event.mark {
-            Mark::Begin => self.begin(count),
-            Mark::Open => self.open_block(),
-            Mark::Block => self.close_block(count),
-            Mark::Condition => self.put_condition(),
-            Mark::BreakIf => self.break_if(),
-            Mark::Else => self.close_else(),
-            Mark::If => self.close_if(),
-            Mark::While | Mark::For | Mark::Loop => self.close_loop(count),
-            Mark::Continuing => self.close_continuing(),
-            Mark::Selector => self.open_switch(),
-            Mark::CaseSelector => self.put_case_value(),
-            Mark::DefaultSelector => self.put_default(count),
-            Mark::Case => self.close_clause(),
-            Mark::Default => self.close_default(count),
-            Mark::Switch => self.close_switch(count),
-            _ => Ok(()),
+    fn step_of_loop(&mut self, mark: Mark) -> Result<(), AllocError>
+        ensures { Keeps (state self.old) (state self.new) }
+    {
+        match mark {
+            Mark::Continue => self.skip_names(),
+            Mark::Continuing => self.leave_continuing(),
+            Mark::While | Mark::Loop => self.end_loop(),
+            Mark::For => {
+                self.end_loop();
+                self.close_block()?;
+            }
+            _ => {}
         }
+        Ok(())
     }
 }

@@ -1,10 +1,8 @@
 // `switch`, and the clauses of one (WGSL, "Switch Statement").
 ghost use Rattle.std.specs.Prelude.{◌≡◌, IfOk};
-ghost use Rattle.wgsl_module.specs.Flow.{around_view, begun_on, below, flow_view};
-ghost use Rattle.wgsl_module.specs.Statements.{outside_of, switch_ended, switch_opened, with_clause};
+ghost use Rattle.wgsl_module.specs.Noted.{HasCase, Keeps, Selects, Switched, noted, state};
 
 use crate::checker::Checker;
-use crate::frame::Switch;
 use std::alloc::AllocError;
 use std::collections::BTreeSet;
 use wgsl_core::ty::Type;
@@ -14,96 +12,53 @@ use wgsl_names::known::Part;
 use wgsl_standard::operand::Operand;
 use wgsl_typing::expression::shown;
 
+/// A `switch` so far.
+#[derive(Drop)]
+pub struct Switch {
+    selector: Part,
+    values: Vec<Part>,
+}
+
 impl<'t> Checker<'t> {
     /// The value behind `switch`.
     pub fn open_switch(&mut self) -> Result<(), AllocError>
-        ensures flow { IfOk result (λ u. flow_view self.new.flow ≡ switch_opened (flow_view self.old.flow)) }
-        ensures around { self.new.around ≡ self.old.around }
+        ensures { IfOk result (λ u. Selects (state self.old) (state self.new)) }
     {
         let selector = self.expressions.take_part()?;
         self.expressions.has_value(&selector)?;
         let values = Vec::new(self.expressions.alloc);
-        self.switches.push(Switch {
-            selector,
-            values,
-            defaults: 0,
-        })?;
-        self.flow.open_switch()
+        self.switches.push(Switch { selector, values })?;
+        Ok(())
     }
 
     /// A value behind `case`.
     pub fn put_case_value(&mut self) -> Result<(), AllocError>
-        ensures flow { self.new.flow ≡ self.old.flow }
-        ensures around { self.new.around ≡ self.old.around }
+        ensures { IfOk result (λ u. HasCase (state self.old) (state self.new)) }
     {
         let part = self.expressions.take_part()?;
         self.expressions.has_value(&part)?;
-        if let Some(switch) = self.switches.last_mut() {
+        if let Some(mut switch) = self.switches.pop() {
             switch.values.push(part)?;
+            self.switches.push(switch)?;
         }
         Ok(())
     }
 
-    /// `default`, alone or behind `case`.
-    pub fn put_default(&mut self, count: usize) -> Result<(), AllocError>
-        ensures flow { self.new.flow ≡ self.old.flow }
-        ensures around { self.new.around ≡ self.old.around }
-    {
-        let mut defaults: usize = 0;
-        if let Some(switch) = self.switches.last_mut() {
-            switch.defaults = switch.defaults.saturating_add(1);
-            defaults = switch.defaults;
-        }
-        match defaults {
-            2 => self.tell_last(Rule::Switch, count, "a second `default`"),
-            _ => Ok(()),
-        }
-    }
-
-    /// `case 1 { }`
-    pub fn close_clause(&mut self) -> Result<(), AllocError>
-        ensures flow { IfOk result (λ u. flow_view self.new.flow ≡ with_clause (flow_view self.old.flow)) }
-        ensures around { self.new.around ≡ self.old.around }
-        ensures expressions { self.new.expressions ≡ self.old.expressions }
-    {
-        self.flow.close_clause()
-    }
-
-    /// `default { }`
-    pub fn close_default(&mut self, count: usize) -> Result<(), AllocError>
-        ensures flow { IfOk result (λ u. flow_view self.new.flow ≡ with_clause (flow_view self.old.flow)) }
-        ensures around { self.new.around ≡ self.old.around }
-    {
-        self.close_clause()?;
-        self.put_default(count)
-    }
-
-    pub fn close_switch(&mut self, count: usize) -> Result<(), AllocError>
-        ensures flow { IfOk result (λ u. flow_view self.new.flow ≡ switch_ended (flow_view self.old.flow)) }
-        ensures around { IfOk result (λ u. around_view self.new.around ≡ outside_of (begun_on (below (flow_view self.old.flow))) (around_view self.old.around)) }
-    {
-        let clauses = self.flow.take_clauses();
-        self.leave();
-        self.check_switch(count)?;
-        self.end(clauses.switched())
-    }
-
     /// What is read of a `switch` is used, and its clauses are those of one.
-    fn check_switch(&mut self, count: usize) -> Result<(), AllocError>
-        ensures flow { self.new.flow ≡ self.old.flow }
-        ensures around { self.new.around ≡ self.old.around }
+    pub fn close_switch(&mut self) -> Result<(), AllocError>
+        ensures { IfOk result (λ u. Switched (state self.old).switches (state self.old) (state self.new)) }
     {
         let Some(switch) = self.switches.pop() else {
             return Ok(());
         };
-        self.check_clauses(&switch, count)?;
+        self.check_clauses(&switch)?;
         self.expressions.note(switch.selector)?;
         self.note_values(switch.values)
     }
 
-    fn note_values(&mut self, values: Vec<Part>) -> Result<(), AllocError>
-        ensures flow { self.new.flow ≡ self.old.flow }
-        ensures around { self.new.around ≡ self.old.around }
+    /// Notes values that are used.
+    pub fn note_values(&mut self, values: Vec<Part>) -> Result<(), AllocError>
+        ensures { IfOk result (λ u. state self.new ≡ noted values.items (state self.old)) }
     {
         for value in values {
             self.expressions.note(value)?;
@@ -111,14 +66,10 @@ impl<'t> Checker<'t> {
         Ok(())
     }
 
-    /// There is one `default`, and the values of the cases are of the selector's type, and differ.
-    fn check_clauses(&mut self, switch: &Switch, count: usize) -> Result<(), AllocError>
-        ensures flow { self.new.flow ≡ self.old.flow }
-        ensures around { self.new.around ≡ self.old.around }
+    /// The values of the cases are of the selector's type, and differ.
+    fn check_clauses(&mut self, switch: &Switch) -> Result<(), AllocError>
+        ensures { Keeps (state self.old) (state self.new) }
     {
-        if switch.defaults == 0 {
-            self.tell_last(Rule::Switch, count, "a switch needs a `default`")?;
-        }
         if let Some(ty) = self.type_of_switch(switch)? {
             self.expressions
                 .argument_value(&switch.selector, Some(&ty))?;
@@ -129,8 +80,7 @@ impl<'t> Checker<'t> {
 
     /// The type of the selector and the values; None if one of them has a fault.
     fn type_of_switch(&mut self, switch: &Switch) -> Result<Option<Type>, AllocError>
-        ensures flow { self.new.flow ≡ self.old.flow }
-        ensures around { self.new.around ≡ self.old.around }
+        ensures { Keeps (state self.old) (state self.new) }
     {
         let Some(selector) = switch.selector.typed() else {
             return Ok(None);
@@ -155,8 +105,7 @@ impl<'t> Checker<'t> {
         operands: &[Operand<'_>],
         places: &[Place],
     ) -> Result<Option<Type>, AllocError>
-        ensures flow { self.new.flow ≡ self.old.flow }
-        ensures around { self.new.around ≡ self.old.around }
+        ensures { Keeps (state self.old) (state self.new) }
     {
         let Some((first, rest)) = operands.split_first() else {
             return Ok(None);
@@ -173,8 +122,7 @@ impl<'t> Checker<'t> {
     }
 
     fn check_values(&mut self, switch: &Switch, ty: &Type) -> Result<(), AllocError>
-        ensures flow { self.new.flow ≡ self.old.flow }
-        ensures around { self.new.around ≡ self.old.around }
+        ensures { Keeps (state self.old) (state self.new) }
     {
         let mut seen = BTreeSet::new(self.expressions.alloc);
         for value in &switch.values {

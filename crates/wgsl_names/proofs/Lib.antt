@@ -1,3 +1,4 @@
 pub mod Shorts
+pub mod Indices
 pub mod Scopes
 pub mod StructNames

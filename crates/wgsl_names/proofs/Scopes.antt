@@ -1,22 +1,16 @@
 -- Scopes, and the indices of names.
-use Rattle.std.proofs.Common.{ℕ, List, [], ◌∷◌, ◌++◌, Bool, true, false, Option, Some, None, cond, ◌≡◌, ◌≤◌, ◌<◌, length, reverse, drop, refl, sym, ap, ◌∙◌, arith, ⊎_elim, is_some}
-use Rattle.std.proofs.lemmas.List.{reverse-append}
-use Rattle.std.proofs.lemmas.Bool.{cases_lt, le-leb, lt-leb}
-use Rattle.std.proofs.lemmas.Map.Text.{btree_map_updates_str}
-use Rattle.std.proofs.lemmas.Slice.Eq.{bytes_eq-Decides}
-use Rattle.std.specs.Prelude.{nat_le}
+use Rattle.std.proofs.Common.{ℕ, List, [], ◌∷◌, Bool, true, false, Option, Some, None, cond, ◌≡◌, ◌≤◌, ◌<◌, length, drop, refl, sym, ap, ◌∙◌, arith, ⊎_elim, is_some, le-leb, nat_le, bytes_eq, nat_cmp}
+use Rattle.std.proofs.Math.Logic.{∥∥₁_elim}
+use Rattle.std.proofs.Props.{props}
+use Rattle.std.proofs.lemmas.Bool.{cases_lt, lt-leb}
+use Rattle.std.specs.Coded.{×_prop, Unit-prop, le_prop}
 use Rattle.std.specs.Option.{option_or}
-use Rattle.std.specs.Str.{bytes_eq}
-use Rattle.std.specs.BTreeMap.{BTreeMap, UpdatesBy, get_by}
+use Rattle.std.specs.BTreeMap.{get_by}
 use Rattle.std.specs.Cmp.Lexicographic.{slice_cmp}
-use Rattle.std.specs.Ordering.{nat_cmp}
-use Rattle.std.specs.Borrow.{Bor}
 use Rattle.wgsl_names.specs.declared.scope.Local.{Local}
 use Rattle.wgsl_names.specs.declared.scope.Locals.{Locals}
-use Rattle.wgsl_names.specs.Scopes.{Block, in_block, named, is_here, with_name, closed, names_of, since, before, cut, start, AreNested, IsIndex, IsIndexed, locals_of, starts_of, scope_view}
-
-pub reverse_push : {A : Type 0} (xs : List A) (x : A) → reverse (xs ++ x ∷ []) ≡ x ∷ reverse xs
-reverse_push xs x = reverse-append xs (x ∷ [])
+use Rattle.wgsl_names.specs.Indices.{Block, in_block, names_of, start, AreNested}
+use Rattle.wgsl_names.specs.Scopes.{named, is_here, with_name, closed, since, before, cut, locals_of, starts_of, scope_view}
 
 -- `named`
 
@@ -99,45 +93,19 @@ pub here_cut : (name : List ℕ) (starts : List ℕ) (locals : List Local) → i
 here_cut name [] locals = rw (named_cut name [] (names_of locals)) (ap (λ names. is_some (in_block name names)) (sym (all_since (names_of locals))) ∙ some_from name 0 locals)
 here_cut name (first ∷ starts) locals = rw (named_cut name (first ∷ starts) (names_of locals)) (some_from name first locals)
 
--- the index
-
-abbrev pub Index : Type 0
-Index = BTreeMap (Bor (List ℕ)) ℕ
-
-abbrev pub Puts : Bor (List ℕ) → Index → Index → Option ℕ → Type 0
-Puts key old new index = UpdatesBy (λ x y. slice_cmp nat_cmp x.now y.now) (λ k. slice_cmp nat_cmp key.now k.now) old new index
-
-pub index_declared : (index : ℕ) (old new : Index) (locals : List Local) (local : Local) → index ≡ length locals → local.shadowed ≡ get_by (λ k. slice_cmp nat_cmp local.name.now k.now) old →
-    Puts local.name old new (Some index) → IsIndex old locals → IsIndex new (local ∷ locals)
-index_declared index old new locals local here shadowed puts is = record {
-  found = λ name. rw (← here) (btree_map_updates_str local.name.now old new (Some index) puts name ∙ ap (cond (bytes_eq local.name.now name) (Some index)) (is.found name));
-  shadowing = (shadowed ∙ is.found local.name.now, is.shadowing);
-}
-
-restored : (key name : List ℕ) (b : Bool) (index : Option ℕ) (names : Block) → (b ≡ true → key ≡ name) → cond b (in_block key names) (cond b index (in_block name names)) ≡ in_block name names
-restored key name true index names same = ap (λ n. in_block n names) (same refl)
-restored key name false index names same = refl
-
-pub index_forgotten : (shadowed : Option ℕ) (old new : Index) (locals : List Local) (local : Local) → local.shadowed ≡ shadowed → Puts local.name old new shadowed → IsIndex old (local ∷ locals) → IsIndex new locals
-index_forgotten shadowed old new locals local same puts is = record {
-  found = λ name. btree_map_updates_str local.name.now old new shadowed puts name
-      ∙ rw (sym same ∙ is.shadowing.0, is.found name)
-      (restored local.name.now name (bytes_eq local.name.now name) (Some (length locals)) (names_of locals) (bytes_eq-Decides local.name.now name).0);
-  shadowing = is.shadowing.1;
-}
-
--- blocks
-
-pub nested_more : (end more : ℕ) (starts : List ℕ) → end ≤ more → AreNested end starts → AreNested more starts
-nested_more end more [] h nested = tt
-nested_more end more (first ∷ starts) h nested = (let le : first ≤ end = nested.0 in omega arith, nested.1)
-
 -- what functions answer
 
-pub named_view : (name : List ℕ) (locals : Locals) → IsIndexed locals → named name (scope_view locals) ≡ get_by (λ key. slice_cmp nat_cmp name key.now) locals.innermost
-named_view name locals is = named_cut name (starts_of locals) (names_of (locals_of locals)) ∙ sym (is.index.found name)
+pub named_view : (name : List ℕ) (locals : Locals) → named name (scope_view locals) ≡ get_by (λ key. slice_cmp nat_cmp name key.now) locals.innermost
+named_view name locals = named_cut name (starts_of locals) (names_of (locals_of locals)) ∙ ∥∥₁_elim locals.indexed (search props) (λ is. sym (is.index.found name))
 
-pub view_closed : (old new : Locals) → starts_of new ≡ drop 1 (starts_of old) → before (start (starts_of old)) (names_of (locals_of new)) ≡ before (start (starts_of old)) (names_of (locals_of old)) →
-    length (locals_of new) ≤ start (starts_of old) → scope_view new ≡ closed (scope_view old)
-view_closed old new left kept end =
-    rw left (ap (cut (drop 1 (starts_of old))) (sym (above (start (starts_of old)) (locals_of new) end).1 ∙ kept) ∙ sym (cut_closed (starts_of old) (names_of (locals_of old))))
+pub view_closed : (old : Locals) (locals : List Local) (starts : List ℕ) → starts ≡ drop 1 (starts_of old) → before (start (starts_of old)) (names_of locals) ≡ before (start (starts_of old)) (names_of (locals_of old)) →
+    length locals ≤ start (starts_of old) → cut starts (names_of locals) ≡ closed (scope_view old)
+view_closed old locals starts left kept end =
+    rw left (ap (cut (drop 1 (starts_of old))) (sym (above (start (starts_of old)) locals end).1 ∙ kept) ∙ sym (cut_closed (starts_of old) (names_of (locals_of old))))
+
+nested-prop : (end : ℕ) (starts : List ℕ) → IsProp (AreNested end starts)
+nested-prop end [] = Unit-prop
+nested-prop end (first ∷ starts) = ×_prop le_prop (nested-prop first starts)
+
+pub are_nested : (locals : Locals) → AreNested (length (locals_of locals)) (starts_of locals)
+are_nested locals = ∥∥₁_elim locals.indexed (nested-prop (length (locals_of locals)) (starts_of locals)) (λ is. is.nested)

@@ -1,6 +1,5 @@
 -- A short struct has the facts of the whole one.
-use Rattle.std.proofs.Common.{◌≡◌, ℕ, Option, Some, None, Bool, true, false, refl, sym, ap, ◌∙◌}
-use Rattle.std.specs.Prelude.{◌&&◌}
+use Rattle.std.proofs.Common.{◌≡◌, ℕ, Option, Some, None, Bool, true, false, refl, sym, ap, ◌∙◌, ◌&&◌}
 use Rattle.wgsl_rules.specs.types.Types.{array_of, vec_of, mat_of, WgslType, Members, no_members, member, scalar, within, struct, atomic}
 use Rattle.wgsl_forms.specs.Kinds.{are_host_shareable, has_fixed_footprint, have_fixed_footprint}
 use Rattle.wgsl_forms.specs.Variable.{may_end, may_end_members}

@@ -1,16 +1,14 @@
 -- Structs and the indices of their names.
-use Rattle.std.proofs.Common.{ℕ, List, [], ◌∷◌, ◌++◌, Bool, true, false, Option, Some, None, IfSome, cond, ◌≡◌, ◌+◌, ◌<◌, length, slice_get, refl, sym, ap, ◌∙◌, arith}
-use Rattle.std.proofs.lemmas.List.{get_or_append_left, length-append}
+use Rattle.std.proofs.Common.{ℕ, List, [], ◌∷◌, ◌++◌, Bool, true, false, Option, Some, None, IfSome, cond, ◌≡◌, ◌+◌, ◌<◌, length, slice_get, refl, sym, ap, ◌∙◌, arith, length-append, Bor, option_and_then, bytes_eq}
+use Rattle.std.proofs.lemmas.List.{get_or_append_left}
 use Rattle.std.proofs.lemmas.Map.Text.{btree_map_updates_str}
 use Rattle.std.proofs.lemmas.Option.{slice_get-get_or}
 use Rattle.std.proofs.Math.Seq.{get_or-append_seam}
-use Rattle.std.specs.Borrow.{Bor}
-use Rattle.std.specs.Option.{option_and_then}
-use Rattle.std.specs.Str.{bytes_eq}
 use Rattle.wgsl_names.specs.declared.structs.Declared.{Declared}
 use Rattle.wgsl_names.specs.declared.structs.Structs.{Structs}
 use Rattle.wgsl_names.specs.StructNames.{AreNamed, IsDeclaredAs, index_of}
-use Rattle.wgsl_names.proofs.Scopes.{Index, Puts}
+use Rattle.wgsl_names.specs.Indices.{Gives}
+use Rattle.wgsl_names.proofs.Indices.{Index}
 
 longer : {A : Type 0} (xs : List A) (x : A) → length (xs ++ x ∷ []) ≡ length xs + 1
 longer xs x = length-append xs (x ∷ [])
@@ -31,7 +29,7 @@ still_there : {A : Type 0} (xs : List A) (x : A) (o : Option ℕ) → IfSome o (
 still_there xs x None h = tt
 still_there xs x (Some i) h = let lt : i < length xs = h in omega (arith, longer xs x, lt)
 
-found : (index : ℕ) (old new : Index) (name : Bor (List ℕ)) (other : List ℕ) → Puts name old new (Some index)
+found : (index : ℕ) (old new : Index) (name : Bor (List ℕ)) (other : List ℕ) → Gives name (Some index) old new
     → index_of other new ≡ cond (bytes_eq name.now other) (Some index) (index_of other old)
 found index old new name other puts = btree_map_updates_str name.now old new (Some index) puts other
 
@@ -46,11 +44,11 @@ kept true items d o h = omega (arith, longer items d)
 kept false items d o h = still_there items d o h
 
 pub struct_declared : (name : Bor (List ℕ)) (declared : Declared) (index : ℕ) (old new : Structs) → index ≡ length old.declared.items
-    → Puts name old.names new.names (Some index) → new.declared.items ≡ old.declared.items ++ declared ∷ [] → AreNamed old → IsDeclaredAs name.now declared old new
+    → Gives name (Some index) old.names new.names → new.declared.items ≡ old.declared.items ++ declared ∷ [] → AreNamed old → IsDeclaredAs name.now declared old new
 struct_declared name declared index old new here puts added are = λ other.
     rw (added, found index old.names new.names name other puts, here) (chosen (bytes_eq name.now other) old.declared.items declared (index_of other old.names) (are other))
 
 pub named_declared : (name : Bor (List ℕ)) (declared : Declared) (index : ℕ) (old new : Structs) → index ≡ length old.declared.items
-    → Puts name old.names new.names (Some index) → new.declared.items ≡ old.declared.items ++ declared ∷ [] → AreNamed old → AreNamed new
+    → Gives name (Some index) old.names new.names → new.declared.items ≡ old.declared.items ++ declared ∷ [] → AreNamed old → AreNamed new
 named_declared name declared index old new here puts added are = λ other.
     rw (added, found index old.names new.names name other puts, here) (kept (bytes_eq name.now other) old.declared.items declared (index_of other old.names) (are other))

@@ -1,11 +1,9 @@
 -- Structs by name (WGSL, "Structure Types").
-use Rattle.std.specs.Prelude.{ℕ, List, Option, Some, None, ◌≡◌, ◌<◌, IfSome, cond, length, slice_get}
+use Rattle.std.specs.Prelude.{ℕ, List, Option, Some, None, ◌≡◌, ◌<◌, IfSome, cond, length, slice_get, option_and_then, bytes_eq}
 use Rattle.std.specs.BTreeMap.{BTreeMap, get_by}
 use Rattle.std.specs.Borrow.{Bor}
 use Rattle.std.specs.Cmp.Lexicographic.{slice_cmp}
-use Rattle.std.specs.Option.{option_and_then}
 use Rattle.std.specs.Ordering.{nat_cmp}
-use Rattle.std.specs.Str.{bytes_eq}
 use Rattle.wgsl_rules.specs.types.Types.{WgslType, struct}
 use Rattle.wgsl_names.specs.declared.structs.Declared.{Declared}
 use Rattle.wgsl_names.specs.declared.structs.Structs.{Structs}

@@ -1,7 +1,7 @@
 // The names of a function, block by block (WGSL, "Declaration and Scope").
-ghost use Rattle.std.specs.Prelude.{ℕ, Option, ◌≡◌, [], ◌∷◌, ◌++◌, IfOk, ◌-◌, drop, take, vec_len};
+ghost use Rattle.std.specs.Prelude.{ℕ, Option, ◌≡◌, [], ◌∷◌, ◌++◌, IfOk, OnErr, OnOk, ◌<◌, ◌-◌, drop, reverse, take, vec_len};
 ghost use Rattle.std.specs.Slice.{IsItemAt};
-ghost use Rattle.wgsl_names.specs.Scopes.{IsIndex, IsIndexed, locals_of, starts_of, start, scope_view, named, is_here, with_name, opened, closed};
+ghost use Rattle.wgsl_names.specs.Indices.{Gives, IsIndexed, start};
 
 use crate::known::Typed;
 use std::alloc::{AllocError, Global};
@@ -35,12 +35,14 @@ pub struct Locals<'t> {
     blocks: Vec<usize>,
     /// What was declared in the blocks that are closed.
     pub closed: Vec<Bound>,
+    ghost indexed: { ∥ IsIndexed innermost (reverse locals.items) (reverse blocks.items) ∥₁ },
 }
 
 impl<'t> Locals<'t> {
+    ghost use Rattle.wgsl_names.specs.Scopes.{locals_of, starts_of, scope_view, named, is_here, with_name, opened, closed};
+
     /// No name is in scope.
     pub fn none(alloc: Global) -> Locals<'t>
-        ensures indexed { IsIndexed result }
         ensures empty { scope_view result ≡ [] ∷ [] }
     {
         Locals {
@@ -61,7 +63,7 @@ impl<'t> Locals<'t> {
     /// The index of what a name stands for.
     #[tactic(auto, using(crate::proofs::Scopes::named_view))]
     pub fn index_of(&self, name: &'t str) -> Option<usize>
-        ensures { IsIndexed self.now → result ≡ named name.now (scope_view self.now) }
+        ensures { result ≡ named name.now (scope_view self.now) }
     {
         self.innermost.get(&name).copied()
     }
@@ -76,7 +78,7 @@ impl<'t> Locals<'t> {
     /// Whether the innermost block declares the name.
     #[tactic(auto, using(crate::proofs::Scopes::here_cut))]
     pub fn is_here(&self, name: &'t str) -> bool
-        ensures { IsIndexed self.now → result ≡ is_here name.now (scope_view self.now) }
+        ensures { result ≡ is_here name.now (scope_view self.now) }
     {
         match self.index_of(name) {
             Some(index) => index >= self.first(),
@@ -103,10 +105,10 @@ impl<'t> Locals<'t> {
     /// Begins a block.
     pub fn open(&mut self) -> Result<(), AllocError>
         ensures opened { IfOk result (λ _. scope_view self.new ≡ opened (scope_view self.old)) }
-        ensures indexed { IsIndexed self.old → IfOk result (λ _. IsIndexed self.new) }
         ensures kept { self.new.locals ≡ self.old.locals }
     {
-        self.blocks.push(self.locals.len())?;
+        self.blocks.reserve(1)?;
+        self.blocks.push_reserved(self.locals.len());
         Ok(())
     }
 
@@ -117,60 +119,70 @@ impl<'t> Locals<'t> {
         named: usize,
         typed: Option<Typed>,
     ) -> Result<(), AllocError>
-        ensures named { IsIndexed self.old → IfOk result (λ _.
+        ensures named { IfOk result (λ _.
             scope_view self.new ≡ with_name name.now (vec_len self.old.locals) (scope_view self.old)) }
-        ensures indexed { IsIndexed self.old → IfOk result (λ _. IsIndexed self.new) }
         ensures added { IfOk result (λ _. (shadowed : Option ℕ) × (self.new.locals.items ≡ self.old.locals.items
             ++ record { name = name.entry; bound = record { named = named; typed = typed }; shadowed = shadowed } ∷ [])) }
     {
+        self.locals.reserve(1)?;
         let shadowed = self.innermost.insert(name, self.locals.len())?;
-        self.locals.push(Local {
+        self.locals.push_reserved(Local {
             name,
             bound: Bound { named, typed },
             shadowed,
-        })?;
+        });
         Ok(())
     }
 
     /// Closes the innermost block, and forgets its names; what they stood for goes to `closed`.
     pub fn close(&mut self) -> Result<(), AllocError>
         ensures closed { IfOk result (λ _. scope_view self.new ≡ closed (scope_view self.old)) }
-        ensures indexed { IsIndexed self.old → IfOk result (λ _. IsIndexed self.new) }
         ensures kept { IfOk result (λ _. self.new.locals.items ≡ take (vec_len self.new.locals) self.old.locals.items) }
     {
-        let first = self.first();
-        self.blocks.pop();
-        while self.locals.len() > first {
+        while self.locals.len() > self.first() {
             self.forget()?;
         }
+        self.blocks.pop();
         Ok(())
     }
 
-    /// Forgets the last name, and finds the one that it shadows.
+    /// Forgets the last name of the innermost block, and finds the one that it shadows.
     fn forget(&mut self) -> Result<(), AllocError>
+        requires { start (starts_of self.old) < vec_len self.old.locals }
         ensures blocks { self.new.blocks ≡ self.old.blocks }
         ensures forgotten { IfOk result (λ _. locals_of self.new ≡ drop 1 (locals_of self.old)) }
         ensures kept { IfOk result (λ _. self.new.locals.items ≡ take (vec_len self.old.locals - 1) self.old.locals.items) }
-        ensures indexed { IsIndex self.old.innermost (locals_of self.old) → IfOk result (λ _.
-            IsIndex self.new.innermost (locals_of self.new)) }
     {
-        let Some(local) = self.locals.pop() else {
+        let Some(local) = self.locals.last() else {
             return Ok(());
         };
-        let Local {
-            name,
-            bound,
-            shadowed,
-        } = local;
-        self.closed.push(bound)?;
-        match shadowed {
-            Some(index) => {
-                self.innermost.insert(name, index)?;
-            }
-            None => {
-                self.innermost.remove(&name);
-            }
+        let (name, shadowed) = (local.name, local.shadowed);
+        self.closed.reserve(1)?;
+        give(&mut self.innermost, name, shadowed)?;
+        if let Some(local) = self.locals.pop() {
+            let Local { bound, .. } = local;
+            self.closed.push_reserved(bound);
         }
         Ok(())
     }
+}
+
+/// Gives a name this index, or none.
+fn give<'t>(
+    index: &mut BTreeMap<&'t str, usize>,
+    name: &'t str,
+    given: Option<usize>,
+) -> Result<(), AllocError>
+    ensures given { OnOk result (Gives name.entry given index.old index.new) }
+    ensures unchanged { OnErr result (index.new.entries ≡ index.old.entries) }
+{
+    match given {
+        Some(given) => {
+            index.insert(name, given)?;
+        }
+        None => {
+            index.remove(&name);
+        }
+    }
+    Ok(())
 }

@@ -1,14 +1,9 @@
 -- Tokens without lists, of which none is joined with those behind it.
-use Rattle.std.proofs.Common.{◌≡◌, ◌≢◌, ℕ, ◌<◌, ◌≤◌, false, true, Bool, List, [], ◌∷◌, ◌++◌, append_assoc, drop, get_or, length, zero, suc, refl, sym, ap, subst, ◌∙◌, arith}
-use Rattle.std.proofs.lemmas.List.{append-nil}
-use denote.Enum.Bare.{same_true}
+use Rattle.std.proofs.Common.{◌≡◌, ◌≢◌, ℕ, ◌<◌, ◌≤◌, false, true, Bool, List, [], ◌∷◌, ◌++◌, append_assoc, drop, get_or, length, zero, suc, refl, sym, ap, subst, ◌∙◌, arith, append-nil}
+use Rattle.wgsl_reader.proofs.Common.{same_true, Search, found_from, is, joined_by, passed, step_at, with_lists, Kind, Opened, Token}
 use Rattle.wgsl_reader.specs.contracts.kind.Kind.{the_type as kind_type}
-use Rattle.wgsl_reader.specs.Lists.{Search, found_from, is, joined_by, passed, step_at, with_lists}
-use Rattle.wgsl_reader.specs.declared.kind.Kind.{Kind}
 use Rattle.wgsl_reader.specs.declared.kind.Kind.TheVariants as k
-use Rattle.wgsl_reader.specs.declared.lists.Opened.{Opened}
 use Rattle.wgsl_reader.specs.declared.lists.Opened.TheVariants as o
-use Rattle.wgsl_reader.specs.declared.token.Token.{Token}
 
 abbrev IsAlone : Kind → List Token → Type 0
 IsAlone kind ts = (joined_by kind ts ≡ (kind, 0)) × (kind ≢ k.Greater)

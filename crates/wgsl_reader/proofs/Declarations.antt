@@ -1,15 +1,8 @@
 -- What is read of a module, declaration by declaration.
-use Rattle.std.proofs.Common.{◌≡◌, ◌&&◌, ℕ, ◌+◌, ◌<◌, ◌≤◌, Bool, Ok, Err, List, [], ◌∷◌, ◌++◌, drop, take, get_or, length, map, sym, ap, subst, ◌∙◌, arith, append_assoc}
-use Rattle.std.proofs.lemmas.Grind.{common_steps}
-use Rattle.std.proofs.lemmas.List.{append-nil, drop-drop, drop-map, drop-take, drop_all, take-map}
+use Rattle.std.proofs.Common.{◌≡◌, ◌&&◌, ℕ, ◌+◌, ◌<◌, ◌≤◌, Bool, Ok, Err, List, [], ◌∷◌, ◌++◌, drop, take, get_or, length, map, sym, ap, subst, ◌∙◌, arith, append_assoc, append-nil, drop-drop}
+use Rattle.wgsl_reader.proofs.Common.{common_steps, drop-map, drop-take, drop_all, take-map, Outcome, ReadAt, kind_of, Kind, Rule, Misread, Event, Token}
 use Rattle.wgsl_reader.specs.Modules.{ReadsFrom, declaration_len, is_directive, none_left, one_read, rule_of, with_misread, with_read}
-use Rattle.wgsl_reader.specs.Reading.{Outcome, ReadAt, kind_of}
-use Rattle.wgsl_reader.specs.declared.kind.Kind.{Kind}
-use Rattle.wgsl_reader.specs.declared.rule.Rule.{Rule}
 use Rattle.wgsl_reader.specs.declared.grammar.Symbol.TheVariants as s
-use Rattle.wgsl_reader.specs.declared.module.Misread.{Misread}
-use Rattle.wgsl_reader.specs.declared.read.Event.{Event}
-use Rattle.wgsl_reader.specs.declared.token.Token.{Token}
 
 more_read : (events : List Event) (outcome : Outcome) (more : List Event) → (events ++ with_read outcome []) ++ more ≡ events ++ with_read outcome more
 more_read events (Ok read) more = append_assoc events (read ++ []) more ∙ ap (λ xs. events ++ xs) (ap (λ xs. xs ++ more) (append-nil read))

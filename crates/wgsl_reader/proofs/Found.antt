@@ -1,11 +1,7 @@
 -- The search for template lists, token by token.
-use Rattle.std.proofs.Common.{◌≡◌, ℕ, ◌+◌, ◌<◌, ◌≤◌, List, [], ◌∷◌, drop, get_or, length, slice_set, zero, suc, refl, sym, ap, ◌∙◌, arith}
-use Rattle.std.proofs.lemmas.Grind.{common_steps}
-use Rattle.std.proofs.lemmas.List.{drop-drop}
-use Rattle.wgsl_reader.specs.Lists.{Search, begun, found_from, joined, of_kind, step_at}
-use Rattle.wgsl_reader.specs.declared.kind.Kind.{Kind}
+use Rattle.std.proofs.Common.{◌≡◌, ℕ, ◌+◌, ◌<◌, ◌≤◌, List, [], ◌∷◌, drop, get_or, length, slice_set, zero, suc, refl, sym, ap, ◌∙◌, arith, drop-drop}
+use Rattle.wgsl_reader.proofs.Common.{common_steps, Search, begun, found_from, joined, of_kind, step_at, Kind, Token}
 use Rattle.wgsl_reader.specs.declared.kind.Kind.TheVariants as k
-use Rattle.wgsl_reader.specs.declared.token.Token.{Token}
 
 -- the `<` at an index
 

@@ -1,7 +1,6 @@
 -- What is to be read behind the symbols of a rule.
 use Rattle.std.proofs.Common.{◌≡◌, List, length, [], ◌∷◌, ◌++◌, Bor, refl, arith}
-use Rattle.wgsl_reader.specs.Frames.{below}
-use Rattle.wgsl_reader.specs.declared.grammar.Symbol.{Symbol}
+use Rattle.wgsl_reader.proofs.Common.{below, Symbol}
 
 pub below_pushed : (frames : List (Bor (List Symbol))) (frame : Bor (List Symbol)) (last : List Symbol) → below (frames ++ frame ∷ []) last ≡ frame.now ++ below frames last
 below_pushed [] frame last = refl

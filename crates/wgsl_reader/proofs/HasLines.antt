@@ -1,13 +1,7 @@
 -- Each rule has lines: the tables have all variants.
-use Rattle.std.proofs.Common.{◌≡◌, ◌&&◌, ℕ, ◌<◌, Bool, true, false, List, [], ◌∷◌, Option, Some, None, length, nat_lt, zero, suc, refl, subst, arith}
-use Rattle.std.specs.Prelude.{IsTrue, if◌then◌else◌, is_some}
-use Rattle.std.proofs.lemmas.Bool.{and_parts, ltb-false, ltb-true}
-use lib.Dec.{eqb}
-use denote.Enum.Declared.{rowss, tag_of}
+use Rattle.std.proofs.Common.{◌≡◌, ◌&&◌, ℕ, ◌<◌, Bool, true, false, List, [], ◌∷◌, Option, Some, None, length, nat_lt, zero, suc, refl, subst, arith, IsTrue, if◌then◌else◌, is_some, ltb-false, ltb-true, eqb}
+use Rattle.wgsl_reader.proofs.Common.{and_parts, rowss, tag_of, the_type as rule_type, Line, expressions, lines_of, modules, requests, rules, statements, Rule}
 use denote.Enum.Enum.{tag_below}
-use Rattle.wgsl_reader.specs.contracts.rule.Rule.{the_type as rule_type}
-use Rattle.wgsl_reader.specs.Grammar.{Line, expressions, lines_of, modules, requests, rules, statements}
-use Rattle.wgsl_reader.specs.declared.rule.Rule.{Rule}
 
 -- the lines of the rule that has this number among the variants
 

@@ -1,3 +1,4 @@
+pub mod Common
 pub mod Gaps
 pub mod HasLines
 pub mod Frames

@@ -1,11 +1,8 @@
 -- A token other than `>` ends no template list.
 use Rattle.std.proofs.Common.{◌≡◌, ◌∷◌, [], List, false, cond, ℕ, refl, ap}
-use Rattle.wgsl_reader.specs.Lists.{Search, ended, is, joined, passed, step, step_at}
-use Rattle.wgsl_reader.specs.declared.kind.Kind.{Kind}
+use Rattle.wgsl_reader.proofs.Common.{Search, ended, is, joined, passed, step, step_at, Kind, Opened, Token}
 use Rattle.wgsl_reader.specs.declared.kind.Kind.TheVariants as k
-use Rattle.wgsl_reader.specs.declared.lists.Opened.{Opened}
 use Rattle.wgsl_reader.specs.declared.lists.Opened.TheVariants as o
-use Rattle.wgsl_reader.specs.declared.token.Token.{Token}
 
 passes_at : (s : Search) (t : Token) (found : Kind × ℕ) (opened : List Opened) → is k.Greater t ≡ false → step_at s t found opened ≡ (passed s t found, found.1)
 passes_at s t found [] other = refl

@@ -1,16 +1,8 @@
 -- The tables have the rules in the order of their enumeration: a row is found by its index.
-use Rattle.std.proofs.Common.{◌≡◌, ◌&&◌, ℕ, ◌-◌, ◌<◌, ◌≤◌, Bool, true, false, List, [], ◌∷◌, ◌++◌, Option, Some, None, Bor, get_or, length, map, option_map, slice_get, zero, suc, refl, sym, ap, ◌∙◌, arith}
-use Rattle.std.specs.Prelude.{IsTrue, if◌then◌else◌}
-use Rattle.std.proofs.lemmas.Bool.{and_parts, eqb-false, eqb-true}
-use Rattle.std.proofs.lemmas.List.{length-map}
+use Rattle.std.proofs.Common.{◌≡◌, ◌&&◌, ℕ, ◌-◌, ◌<◌, ◌≤◌, Bool, true, false, List, [], ◌∷◌, ◌++◌, Option, Some, None, Bor, get_or, length, map, option_map, slice_get, zero, suc, refl, sym, ap, ◌∙◌, arith, IsTrue, if◌then◌else◌, eqb-true, eqb}
+use Rattle.wgsl_reader.proofs.Common.{and_parts, eqb-false, length-map, tag_of, the_type as rule_type, Kind, Symbol, Rule}
 use Rattle.std.proofs.lemmas.Option.{slice_get-map, slice_get_past, slice_get-get_or}
-use lib.Dec.{eqb}
-use denote.Enum.Declared.{tag_of}
-use Rattle.wgsl_reader.specs.contracts.rule.Rule.{the_type as rule_type}
 use Rattle.wgsl_reader.specs.Grammar.{Line, expressions, find, line_of, lines_of, modules, requests, row_of, rules, statements}
-use Rattle.wgsl_reader.specs.declared.kind.Kind.{Kind}
-use Rattle.wgsl_reader.specs.declared.grammar.Symbol.{Symbol}
-use Rattle.wgsl_reader.specs.declared.rule.Rule.{Rule}
 
 -- the lines of a row of a table as the code has it
 

@@ -1,11 +1,8 @@
 -- Tokens have an outcome by each rule: reading ends.
 use Rattle.std.proofs.Common.{◌≡◌, ℕ, ◌+◌, ◌<◌, Bool, true, false, Some, None, Option, Ok, Err, List, [], ◌∷◌, ◌++◌, zero, suc, refl, subst, arith}
-use denote.Enum.Bare.{sameb, same_false, same_true}
+use Rattle.wgsl_reader.proofs.Common.{sameb, same_false, same_true, production, Kind, Symbol}
 use Rattle.wgsl_reader.specs.contracts.kind.Kind.{the_type as kind_type}
-use Rattle.wgsl_reader.specs.Grammar.{production}
 use Rattle.wgsl_reader.specs.Reading.{Outcome, ReadAt, all_read, more_there, next_kind, no_rule, noted, other_token, rule_read, token_read, with_event}
-use Rattle.wgsl_reader.specs.declared.kind.Kind.{Kind}
-use Rattle.wgsl_reader.specs.declared.grammar.Symbol.{Symbol}
 use Rattle.wgsl_reader.specs.declared.grammar.Symbol.TheVariants as s
 use Rattle.wgsl_reader.proofs.Weights.{is_empty, lighter, weighs, weight}
 

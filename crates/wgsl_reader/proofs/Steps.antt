@@ -1,15 +1,8 @@
 -- What is read of tokens, from what is read of those that are left.
-use Rattle.std.proofs.Common.{◌≡◌, ◌≢◌, ℕ, ◌+◌, ◌<◌, Some, None, Ok, Err, List, [], ◌∷◌, ◌++◌, drop, length, map, zero, suc, refl, sym, ap, subst, ◌∙◌, arith}
-use Rattle.std.proofs.lemmas.List.{append_assoc, append-nil}
-use Rattle.wgsl_reader.specs.Grammar.{production}
+use Rattle.std.proofs.Common.{◌≡◌, ◌≢◌, ℕ, ◌+◌, ◌<◌, Some, None, Ok, Err, List, [], ◌∷◌, ◌++◌, drop, length, map, zero, suc, refl, sym, ap, subst, ◌∙◌, arith, append_assoc, append-nil}
+use Rattle.wgsl_reader.proofs.Common.{production, Kind, Mark, Rule, Symbol, Event, Token}
 use Rattle.wgsl_reader.specs.Reading.{IsOther, Outcome, ReadAt, all_read, kind_of, more_there, next_kind, no_rule, noted, other_token, rule_read, token_read, with_event, with_events}
-use Rattle.wgsl_reader.specs.declared.kind.Kind.{Kind}
-use Rattle.wgsl_reader.specs.declared.mark.Mark.{Mark}
-use Rattle.wgsl_reader.specs.declared.rule.Rule.{Rule}
-use Rattle.wgsl_reader.specs.declared.grammar.Symbol.{Symbol}
 use Rattle.wgsl_reader.specs.declared.grammar.Symbol.TheVariants as s
-use Rattle.wgsl_reader.specs.declared.read.Event.{Event}
-use Rattle.wgsl_reader.specs.declared.token.Token.{Token}
 
 with_one_more : (events : List Event) (mark : Mark) (at : ℕ) (r : Outcome) → with_events (events ++ record { mark = mark; at = at } ∷ []) r ≡ with_events events (with_event mark at r)
 with_one_more events mark at (Ok more) = ap Ok (append_assoc events (record { mark = mark; at = at } ∷ []) more)

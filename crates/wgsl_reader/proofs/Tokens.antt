@@ -1,12 +1,8 @@
 -- The tokens from an index on, piece by piece.
-use Rattle.std.proofs.Common.{◌≡◌, ℕ, ◌+◌, ◌-◌, ◌<◌, Ok, Err, List, [], ◌∷◌, ◌++◌, drop, length, get_or, refl, sym, ap, ◌∙◌, arith, zero, suc}
-use Rattle.std.proofs.lemmas.List.{append_assoc, drop-drop}
-use Rattle.std.proofs.lemmas.Grind.{common_steps}
-use Rattle.wgsl_reader.specs.Tokens.{Tokens, in_front, mark_len, piece_of, tokens_from, tokens_of, with_piece}
-use Rattle.wgsl_reader.specs.declared.kind.Kind.{Kind}
+use Rattle.std.proofs.Common.{◌≡◌, ℕ, ◌+◌, ◌-◌, ◌<◌, Ok, Err, List, [], ◌∷◌, ◌++◌, drop, length, get_or, refl, sym, ap, ◌∙◌, arith, zero, suc, append_assoc, drop-drop}
+use Rattle.wgsl_reader.proofs.Common.{common_steps, Tokens, in_front, mark_len, piece_of, tokens_from, tokens_of, with_piece, Kind, Token}
 use Rattle.wgsl_reader.specs.declared.piece.Piece.{Piece}
 use Rattle.wgsl_reader.specs.declared.piece.Piece.TheVariants as p
-use Rattle.wgsl_reader.specs.declared.token.Token.{Token}
 
 -- the rest of a piece in front of tokens
 skipped : (n at : ℕ) (bytes : List ℕ) → tokens_from n at bytes ≡ tokens_from 0 (at + n) (drop n bytes)

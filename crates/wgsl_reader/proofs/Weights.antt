@@ -1,17 +1,9 @@
 -- Reading takes a token after finitely many steps: each step in between lowers a weight of what is to be read.
-use Rattle.std.proofs.Common.{◌≡◌, ◌&&◌, ◌||◌, ℕ, ◌+◌, ◌*◌, ◌<◌, ◌≤◌, Bool, true, false, List, [], ◌∷◌, ◌++◌, Option, Some, None, Bor, cond, length, length-append, max, nat_lt, not, zero, suc, refl, sym, ap, subst, ◌∙◌, arith}
-use Rattle.std.specs.Prelude.{IsTrue, if◌then◌else◌}
+use Rattle.std.proofs.Common.{◌≡◌, ◌&&◌, ◌||◌, ℕ, ◌+◌, ◌*◌, ◌<◌, ◌≤◌, Bool, true, false, List, [], ◌∷◌, ◌++◌, Option, Some, None, Bor, cond, length, length-append, max, nat_lt, not, zero, suc, refl, sym, ap, subst, ◌∙◌, arith, IsTrue, if◌then◌else◌, ltb-true}
 use Rattle.std.specs.List.{list_all, list_any}
-use Rattle.std.proofs.lemmas.Bool.{and_parts, ltb-true}
-use denote.Enum.Bare.{sameb, same_true}
-use Rattle.wgsl_reader.specs.contracts.rule.Rule.{the_type as rule_type}
+use Rattle.wgsl_reader.proofs.Common.{and_parts, sameb, same_true, the_type as rule_type, Kind, Mark, Rule, Symbol, below}
 use Rattle.wgsl_reader.specs.Grammar.{Line, chosen, chosen_if_any, expressions, find, is_chosen, lines_of, modules, production, requests, rules, statements}
-use Rattle.wgsl_reader.specs.declared.kind.Kind.{Kind}
-use Rattle.wgsl_reader.specs.declared.mark.Mark.{Mark}
-use Rattle.wgsl_reader.specs.declared.rule.Rule.{Rule}
-use Rattle.wgsl_reader.specs.declared.grammar.Symbol.{Symbol}
 use Rattle.wgsl_reader.specs.declared.grammar.Symbol.TheVariants as s
-use Rattle.wgsl_reader.specs.Frames.{below}
 use Rattle.wgsl_reader.proofs.Frames.{below_pushed}
 
 -- all symbols may be empty, if the rules are that may be

@@ -28,6 +28,10 @@ begins_either kind next = is k.ConstAssert kind || is k.Const kind && is k.Name 
 abbrev pub ends_attributes : Kind → Bool
 ends_attributes kind = is k.Fn kind || is k.Override kind || is k.Var kind
 
+-- `@const` is an attribute
+abbrev pub is_const_attribute : Kind → Kind → Bool
+is_const_attribute behind kind = is k.At behind && is k.Const kind
+
 -- The next declaration begins with these two: `;` or `}` is missing in front of them. `braces` are open.
 abbrev pub begins_next : ℕ → Bool → Kind → Kind → Bool
 begins_next braces in_attributes kind next = not in_attributes && (begins_declaration kind next || nat_eq braces 0 && begins_either kind next)
@@ -39,15 +43,16 @@ ends_with braces kind = nat_eq braces 0 && is k.Semicolon kind || nat_le braces 
 abbrev pub braces_behind : ℕ → Kind → ℕ
 braces_behind braces kind = cond (is k.OpenCurly kind) (braces + 1) (cond (is k.CloseCurly kind) (braces - 1) braces)
 
-abbrev pub rest_len : ℕ → Bool → List Kind → ℕ
-rest_len braces in_attributes [] = 0
-rest_len braces in_attributes (kind ∷ kinds) =
-    cond (begins_next braces in_attributes kind (next_kind kinds)) 0
-    (cond (ends_with braces kind) 1 (suc (rest_len (braces_behind braces kind) (in_attributes && not (ends_attributes kind)) kinds)))
+-- what is left of a declaration, behind a token of this kind
+abbrev pub rest_len : ℕ → Bool → Kind → List Kind → ℕ
+rest_len braces in_attributes behind [] = 0
+rest_len braces in_attributes behind (kind ∷ kinds) =
+    cond (begins_next braces (in_attributes || is_const_attribute behind kind) kind (next_kind kinds)) 0
+    (cond (ends_with braces kind) 1 (suc (rest_len (braces_behind braces kind) (in_attributes && not (ends_attributes kind)) kind kinds)))
 
 abbrev pub declaration_len : List Kind → ℕ
 declaration_len [] = 0
-declaration_len (kind ∷ kinds) = cond (ends_with 0 kind) 1 (suc (rest_len (braces_behind 0 kind) (is k.At kind) kinds))
+declaration_len (kind ∷ kinds) = cond (ends_with 0 kind) 1 (suc (rest_len (braces_behind 0 kind) (is k.At kind) kind kinds))
 
 -- Directives stand in front of all declarations
 

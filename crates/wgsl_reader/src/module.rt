@@ -1,6 +1,6 @@
 // Reads a module declaration by declaration.
 ghost use Rattle.std.specs.Prelude.{◌≡◌, ◌++◌, ◌&&◌, [], ◌+◌, ◌<◌, ◌≤◌, ◌^◌, IfOk, length, map};
-ghost use Rattle.wgsl_reader.specs.Modules.{ReadsModule, begins_declaration, begins_either, begins_next, braces_behind, declaration_len, ends_attributes, ends_with, is_directive, rule_of, with_misread, with_read};
+ghost use Rattle.wgsl_reader.specs.Modules.{ReadsModule, begins_declaration, begins_either, begins_next, braces_behind, declaration_len, ends_attributes, ends_with, is_const_attribute, is_directive, rule_of, with_misread, with_read};
 ghost use Rattle.wgsl_reader.specs.Reading.{kind_of, outcome_of};
 
 use crate::bytes::from;
@@ -71,6 +71,13 @@ fn ends_attributes(kind: Kind) -> bool
     kind == Kind::Fn || kind == Kind::Override || kind == Kind::Var
 }
 
+/// `@const`
+fn is_const_attribute(behind: Kind, kind: Kind) -> bool
+    ensures { result ≡ is_const_attribute behind kind }
+{
+    behind == Kind::At && kind == Kind::Const
+}
+
 fn begins_next(braces: usize, in_attributes: bool, kind: Kind, next: Kind) -> bool
     ensures { result ≡ begins_next braces in_attributes kind next }
 {
@@ -110,10 +117,12 @@ fn declaration_len(tokens: &[Token]) -> usize
     }
     let mut braces = braces_behind(0, first);
     let mut in_attributes = first == Kind::At;
+    let mut behind = first;
     let mut at = 1;
     while at < tokens.len() {
         let kind = tokens[at].kind;
-        if begins_next(braces, in_attributes, kind, next_kind(tokens, at + 1)) {
+        let is_attribute = in_attributes || is_const_attribute(behind, kind);
+        if begins_next(braces, is_attribute, kind, next_kind(tokens, at + 1)) {
             return at;
         }
         at += 1;
@@ -122,6 +131,7 @@ fn declaration_len(tokens: &[Token]) -> usize
         }
         braces = braces_behind(braces, kind);
         in_attributes = in_attributes && !ends_attributes(kind);
+        behind = kind;
     }
     at
 }

@@ -1,7 +1,7 @@
 // One request, from its bytes to its reply.
-ghost use Rattle.std.specs.Prelude.{◌≡◌, ◌<◌, ◌≤◌, [], IfOk, IsOkAnd, IsUtf8, Ok, length, string_bytes, true};
+ghost use Rattle.std.specs.Prelude.{◌≡◌, ◌<◌, ◌≤◌, [], IfOk, IsOkAnd, IsUtf8, Ok, length, true};
 ghost use Rattle.wgsl_requests.specs.Replies as replies;
-ghost use Rattle.wgsl_requests.specs.Replies.{IsUnreadable, WritesReply};
+ghost use Rattle.wgsl_requests.specs.Replies.{IsUnreadable, Replies};
 ghost use Rattle.wgsl_words.specs.Words.{words_of};
 ghost use Rattle.wgsl_replies.specs.Replies.{IsBlank, IsExplanation, IsReplyTo, IsReplyToLine, reply_text, too_long, why_seen};
 
@@ -48,8 +48,7 @@ pub fn write_why(request: &[u8], why: Why, text: &mut String) -> Result<(), Allo
 pub fn has_place(why: Why) -> bool {
     matches!(
         why,
-        Why::Words(WordsWhy::Word(_))
-            | Why::Line(LineWhy::Misread(_, _) | LineWhy::Operand(_) | LineWhy::Type(_))
+        Why::Words(WordsWhy::Word(_)) | Why::Line(LineWhy::Misread(_, _))
     )
 }
 
@@ -83,8 +82,7 @@ fn write_reply_to_request(
     ensures no_text { ¬ IsUtf8 request.now → IsOkAnd result IsUnreadable }
     ensures blank { length request.now ≤ LONGEST → IsBlank rules request.now
         → IfOk result (λ kind. kind ≡ ReplyKind.Nothing) }
-    ensures reply { IfOk result (λ kind. WritesReply (IsReplyTo rules request.now) kind
-        (string_bytes text.old) (string_bytes text.new)) }
+    ensures reply { Replies (IsReplyTo rules request.now) text.old text.new result }
 {
     if request.len() <= LONGEST && has_line_feed(request) {
         return Ok(ReplyKind::Unreadable(Why::LineFeed));
@@ -107,8 +105,7 @@ pub fn write_reply(
         → words_of request.now ≡ [] → result ≡ Ok ReplyKind.Nothing }
     ensures blank { length request.now ≤ LONGEST → IsBlank rules request.now
         → IfOk result (λ kind. kind ≡ ReplyKind.Nothing) }
-    ensures reply { IfOk result (λ kind. WritesReply (IsReplyToLine rules request.now) kind
-        (string_bytes text.old) (string_bytes text.new)) }
+    ensures reply { Replies (IsReplyToLine rules request.now) text.old text.new result }
 {
     match rules {
         RuleSet::Ported => Ok(of_words(write_reply_to_words(alloc, request, text)?)),

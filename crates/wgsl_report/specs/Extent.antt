@@ -1,7 +1,5 @@
 -- What the rules of address spaces see of a type of a module (WGSL, "Address Space Layout Constraints").
-use Rattle.std.specs.Prelude.{◌≡◌, ℕ, List, [], ◌∷◌, ◌++◌, Option, Some, None, slice_get, take}
-use Rattle.std.specs.List.{All}
-use Rattle.std.specs.Option.{unwrap_or}
+use Rattle.std.specs.Prelude.{◌≡◌, ℕ, List, [], ◌∷◌, ◌++◌, Option, Some, None, slice_get, take, All, unwrap_or}
 use Rattle.wgsl_syntax.specs.declared.address.AddressSpace.{AddressSpace}
 use Rattle.wgsl_syntax.specs.declared.scalar.Scalar.TheVariants.{Bool}
 use Rattle.wgsl_source.specs.declared.measured.MeasuredType.{MeasuredType}

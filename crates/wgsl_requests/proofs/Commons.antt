@@ -1,20 +1,16 @@
 -- Values that convert together have their common type.
-use Rattle.std.proofs.Common.{◌≡◌, ℕ, List, [], ◌∷◌, Option, Some, None, map, refl, sym, ap, subst, ◌∙◌}
-use Rattle.std.specs.Prelude.{option_and_then, option_map}
-use Rattle.wgsl_rules.specs.types.Types.{WgslType}
-use Rattle.wgsl_rules.specs.conversion.Conversion.{ConvertsTo}
+use Rattle.wgsl_requests.proofs.Shared.{◌≡◌, ℕ, List, [], ◌∷◌, Option, Some, None, map, refl, sym, ap, subst, ◌∙◌, option_and_then, option_map, WgslType}
+use Rattle.wgsl_requests.proofs.Shared.{ConvertsTo, left_common_once, receives_nil, receives_cons, receives_head, receives_tail, view}
 use Rattle.wgsl_rules.specs.conversion.Common.{IsLeftCommon, of_no_types}
 use Rattle.wgsl_rules.specs.conversion.Converted.{all_to}
 use Rattle.wgsl_rules.specs.Headline.{Receives}
-use Rattle.wgsl_rules.proofs.conversion.Commons.{left_common_once, receives_nil, receives_cons, receives_head, receives_tail}
 use Rattle.wgsl_rules.proofs.conversion.Order.{dec_converts}
-use Rattle.wgsl_core.specs.View.{view}
 use Rattle.wgsl_core.specs.Converted.{converted}
 use Rattle.wgsl_core.proofs.Converted.{converted_some, converted_none}
 use Rattle.wgsl_types.specs.Typed.{on_line, typed, typed_to}
 use Rattle.wgsl_types.specs.declared.typed.Typed.{Typed}
 use Rattle.wgsl_requests.specs.Answers.{IsReceivedCommon}
-use Rattle.wgsl_requests.specs.internal.Typed.{first_type_of}
+use Rattle.wgsl_requests.specs.internal.Written.{first_type_of}
 
 abbrev Lines : Type 0
 Lines = List (WgslType × ℕ)

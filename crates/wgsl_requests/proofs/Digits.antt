@@ -1,6 +1,12 @@
--- Numbers, written digit by digit.
-use Rattle.std.proofs.Common.{◌≡◌, ◌∙◌, ◌+◌, ◌<◌, ◌≤◌, ◌/◌, ◌%◌, ◌^◌, ◌∷◌, ◌++◌, ℕ, List, [], ap, append_assoc, arith, decimal, sym}
+-- What is written at the end of a text: another text, and numbers digit by digit.
+use Rattle.std.proofs.Common.{◌≡◌, ◌∙◌, ◌+◌, ◌<◌, ◌≤◌, ◌/◌, ◌%◌, ◌^◌, ◌∷◌, ◌++◌, ℕ, List, [], Result, Ok, Err, ap, append_assoc, arith, decimal, is_ok, sym}
+use Rattle.std.specs.Prelude.{OnOk, if◌then◌else◌}
 use Rattle.std.proofs.lemmas.Fmt.{decimal_digit, decimal_step}
+
+-- what `push_str` writes
+pub pushed : {T E : Type 0} → (r : Result T E) (new old text : List ℕ) → new ≡ (if is_ok r then old ++ text else old) → OnOk r (new ≡ old ++ text)
+pushed (Ok x) new old text e = e
+pushed (Err e) new old text p = tt
 
 -- the last digit, behind those in front of it
 pub last_digit : (n : ℕ) (old mid : List ℕ) → 10 ≤ n → n < 2 ^ 64 → mid ≡ old ++ decimal (n / 10) → mid ++ (48 + n % 10) ∷ [] ≡ old ++ decimal n

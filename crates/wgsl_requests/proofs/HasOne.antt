@@ -1,6 +1,5 @@
 -- What holds of at most one value, and of one if something else is known.
-use Rattle.std.proofs.Common.{◌≡◌, ◌∙◌, Bool, true, false, refl, subst, sym}
-use Rattle.std.specs.Bool.{Decides}
+use Rattle.wgsl_requests.proofs.Shared.{◌≡◌, ◌∙◌, Bool, true, false, refl, subst, sym, Decides}
 
 pub record HasOne {A : Type 0} (If : Type 0) (R : A → Type 0) : Type 0 where
   pub once : (q r : A) → R q → R r → q ≡ r

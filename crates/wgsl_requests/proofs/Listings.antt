@@ -1,22 +1,11 @@
 -- Lists as they are written, over values and over what these are seen as.
-use Rattle.std.proofs.Common.{◌≡◌, ◌∙◌, ◌++◌, ℕ, List, [], ◌∷◌, Option, Some, codes, decimal, map, refl, sym, ap, append_assoc}
+use Rattle.wgsl_requests.proofs.Shared.{◌≡◌, ◌∙◌, ◌++◌, ℕ, List, [], ◌∷◌, Option, Some, codes, decimal, map, refl, sym, ap, append_assoc, WgslType, listed}
+use Rattle.wgsl_requests.proofs.Shared.{parameter_text, template_text, wgsl_spelling, types_of, value_of, parameter_view, view, «Type», unknown_name}
+use Rattle.wgsl_requests.proofs.Shared.{given_type, Operand, WgslCall, loaded, written_view, lined}
 use Rattle.std.proofs.lemmas.List.Folds.{flat_map-map}
-use Rattle.wgsl_rules.specs.types.Types.{WgslType}
-use Rattle.wgsl_rules.specs.types.Signatures.{listed, parameter_text, template_text}
-use Rattle.wgsl_rules.specs.types.Spelling.{wgsl_spelling}
-use Rattle.wgsl_rules.specs.standard.Choice.{types_of, value_of}
-use Rattle.wgsl_core.specs.Instances.{parameter_view}
-use Rattle.wgsl_core.specs.View.{view}
 use Rattle.wgsl_core.specs.declared.signature.TpltParam.{TpltParam}
-use Rattle.wgsl_core.specs.declared.ty.Type.{«Type»}
-use Rattle.wgsl_standard.specs.Callees.{unknown_name}
 use Rattle.wgsl_standard.specs.Meant.{meant}
-use Rattle.wgsl_standard.specs.Operands.{given_type}
-use Rattle.wgsl_standard.specs.declared.operand.Operand.{Operand}
-use Rattle.wgsl_requests.specs.Calls.{WgslCall, loaded}
-use Rattle.wgsl_requests.specs.StandardViews.{written_view}
 use Rattle.wgsl_requests.specs.Texts.{lines_text, no_overload_text, refusal_for, resolution_text, result_text, suggestion, unknown_text}
-use Rattle.wgsl_requests.specs.internal.Written.{lined}
 
 pub listed_seen : {A B : Type 0} (text : B → List ℕ) (f : A → B) (xs : List A) → listed text (map f xs) ≡ listed (λ x. text (f x)) xs
 listed_seen text f [] = refl

@@ -1,15 +1,18 @@
 -- A request has one answer, and what was read of a line one reply, if every request has an answer.
-use Rattle.std.proofs.Common.{◌≡◌, ◌∙◌, ℕ, List, Option, Some, None, ap, arith, inl, inr, length, refl, sym}
-use Rattle.std.specs.Str.{is_utf8}
-use Rattle.std.proofs.lemmas.Bool.{cases_lt}
+use Rattle.wgsl_requests.proofs.Shared.{◌≡◌, ◌∙◌, ℕ, List, Option, Some, None, ap, arith, inl, inr, length, refl, sym, is_utf8, cases_lt, WgslRequest}
 use Rattle.std.proofs.lemmas.Str.{IsUtf8-from_is_utf8, is_utf8-from_IsUtf8}
 use Rattle.wgsl_requests.specs.Answers.{Answers, WgslAnswer}
-use Rattle.wgsl_requests.specs.Replies.{IsLineOfText, IsReplyOf, OfLine, ReplyText, answer, unreadable}
-use Rattle.wgsl_requests.specs.Requests.{WgslRequest}
+use Rattle.wgsl_requests.specs.Replies.{IsAnswer, IsLineOfText, IsReplyOf, OfLine, ReplyText, answer, unreadable}
 use Rattle.wgsl_requests.specs.Texts.{answer_text, text_kind}
+use Rattle.wgsl_requests.specs.declared.reply.TextKind.{TextKind}
 use Rattle.wgsl_requests.proofs.HasOne.{HasOne, decided, known}
 use Rattle.wgsl_requests.proofs.OneAnswer.{answer_once}
-use Rattle.wgsl_requests.proofs.OneText.{one_text}
+
+-- at most one text, of one kind, answers a request
+pub one_text : (request : WgslRequest) (k l : TextKind) (a b : List ℕ) → IsAnswer request k a → IsAnswer request l b → (k ≡ l) × (a ≡ b)
+one_text request k l a b f g =
+    let same = answer_once request f.0 g.0 f.1 g.1 in
+    (f.2 ∙ (ap text_kind same ∙ sym g.2), f.3 ∙ (ap answer_text same ∙ sym g.3))
 
 abbrev pub EachAnswered : Type 0
 EachAnswered = (request : WgslRequest) → (a : WgslAnswer) × Answers request a

@@ -1,22 +1,22 @@
--- Calls as WGSL's own overloads take them.
-use Rattle.std.proofs.Common.{◌≡◌, List, [], ◌∷◌, Option, Some, None, Result, Ok, Err, map, refl, sym, ap, subst, ◌∙◌}
-use Rattle.std.specs.Prelude.{IfOk, MatchOption, option_map}
-use Rattle.std.specs.declared.alloc.AllocError.{AllocError}
-use Rattle.std.specs.Borrow.{Bor}
-use Rattle.wgsl_rules.specs.types.Types.{WgslType}
-use Rattle.wgsl_rules.specs.types.Signatures.{Parameter}
-use Rattle.wgsl_rules.specs.standard.Choice.{Operand as WgslOperand}
-use Rattle.wgsl_core.specs.View.{view}
-use Rattle.wgsl_core.specs.declared.ty.Type.{«Type»}
-use Rattle.wgsl_standard.specs.Operands.{operand_view, operands_view}
+-- Calls as WGSL's own overloads take them, what is noted on them, and the overloads of a name.
+use Rattle.wgsl_requests.proofs.Shared.{◌≡◌, List, [], ◌∷◌, Option, Some, None, Result, Ok, Err, map, refl, sym, ap, subst, ◌∙◌, IfOk, MatchOption, option_map}
+use Rattle.wgsl_requests.proofs.Shared.{AllocError, Bor, WgslType, Parameter, WgslOperand, view, «Type», operand_view, operands_view, Fail, Operand, loaded}
+use Rattle.wgsl_requests.proofs.Shared.{template_type, WithTemplate, written_view, ℕ, Bool, true, false, Vec, Global, MatchBool, Overload, is_template}
+use Rattle.wgsl_requests.proofs.Shared.{types_of, callee_view, given_type, note_listed, note_text, types_given, Mismatch, AreNotesWith, filter, flat_map, ⊤}
+use Rattle.wgsl_requests.proofs.Shared.{bytes_eq, false_from_ne_true, append-nil, a_binary, a_unary, texts_listed}
 use Rattle.wgsl_standard.specs.Answered.{Answers, IsRefused}
-use Rattle.wgsl_core.specs.declared.error.Fail.{Fail}
 use Rattle.wgsl_core.specs.declared.error.Fail.TheVariants.{Error}
 use Rattle.wgsl_standard.specs.declared.answer.NoOverload.{NoOverload}
-use Rattle.wgsl_standard.specs.declared.operand.Operand.{Operand}
-use Rattle.wgsl_requests.specs.Calls.{loaded, template_type}
-use Rattle.wgsl_requests.specs.Standard.{WithTemplate}
-use Rattle.wgsl_requests.specs.StandardViews.{written_view}
+use Rattle.wgsl_standard.specs.Explained.{IsExplained, IsExplainedWith, note_view}
+use Rattle.wgsl_standard.specs.declared.callee.Callee.{Callee}
+use Rattle.wgsl_standard.specs.declared.explanation.Note.{Note}
+use Rattle.std.proofs.lemmas.Slice.Eq.{bytes_eq-Decides}
+use Rattle.wgsl_syntax.specs.Names.{Reads}
+use Rattle.wgsl_syntax.specs.Operator.{binary_operators, binary_text, unary_operators, unary_text}
+use Rattle.wgsl_syntax.specs.declared.operator.BinaryOperator.{BinaryOperator}
+use Rattle.wgsl_syntax.specs.declared.operator.UnaryOperator.{UnaryOperator}
+use Rattle.wgsl_standard.specs.Lines.{binary_operators_named, unary_operators_named}
+use Rattle.wgsl_standard.proofs.NumberedLines.{one_binary, one_unary}
 
 -- operands as they are written, and loaded
 pub same_operands : (xs : List Operand) → operands_view xs ≡ loaded (map written_view xs)
@@ -49,3 +49,63 @@ answered {A} seen P template found t xs made r is some h same = each r (resolved
     each : (r : Result (Option A) AllocError) → IfOk r (λ x. P (shown t) (operands_view xs) (option_map seen x)) → IfOk r (λ x. WithTemplate (λ t r. P t (loaded (map written_view xs)) r) template (option_map seen x))
     each (Ok x) p = with_template P template found t xs _ is some p
     each (Err e) p = tt
+
+notes_with : (callee : Callee) (t : Option WgslType) (xs : List WgslOperand) (ns : List (Overload × Mismatch)) → IsExplained callee t xs ns → AreNotesWith (callee_view callee) t xs ns
+notes_with callee None xs ns h = h
+notes_with callee (Some t) xs ns h = by_template (is_template t) h
+  where
+    by_template : (is : Bool) → IsExplainedWith callee t xs is ns → MatchBool is (IsExplainedWith callee t xs true ns) (ns ≡ [])
+    by_template true h = h
+    by_template false h = h
+
+pub same_types : (xs : List Operand) → types_given xs ≡ types_of (map written_view xs)
+same_types [] = refl
+same_types (x ∷ xs) = ap (λ ts. given_type x.ty ∷ ts) (same_types xs)
+
+-- the lines on a call with this template
+abbrev Explained : Callee → List Operand → List (List ℕ) → Option WgslType → Type 0
+Explained callee xs lines t = (ns : List (Overload × Mismatch))
+    × AreNotesWith (callee_view callee) t (loaded (map written_view xs)) ns × (lines ≡ map (note_listed (callee_view callee) t (types_of (map written_view xs))) ns)
+
+pub explained : (callee : Callee) (template : Option (List Parameter)) (found : Option (Option (Bor «Type»))) (t : Option (Bor «Type»)) (xs : List Operand) (lines : List (List ℕ)) (ns : List (Overload × Mismatch)) →
+    option_map (option_map (λ t. view t.now)) found ≡ template_type template → found ≡ Some t → IsExplained callee (shown t) (operands_view xs) ns → lines ≡ map (note_listed (callee_view callee) (shown t) (types_given xs)) ns →
+    MatchOption (template_type template) (lines ≡ []) (Explained callee xs lines)
+explained callee template found t xs lines ns seen is notes texts =
+    subst (λ t. MatchOption t (lines ≡ []) (Explained callee xs lines)) (sym (ap (option_map (option_map (λ t. view t.now))) is) ∙ seen) (
+      ns,
+      notes_with callee (shown t) (loaded (map written_view xs)) ns (subst (λ ys. IsExplained callee (shown t) ys ns) (same_operands xs) notes),
+      subst (λ ts. lines ≡ map (note_listed (callee_view callee) (shown t) ts) ns) (same_types xs) texts,
+    )
+
+-- what `explain` returns
+pub all_explained : (callee : Callee) (template : Option (List Parameter)) (found : Option (Option (Bor «Type»))) (t : Option (Bor «Type»)) (xs : List Operand) (r : Result (Vec Note Global) AllocError) →
+    option_map (option_map (λ t. view t.now)) found ≡ template_type template → found ≡ Some t → IfOk r (λ v. IsExplained callee (shown t) (operands_view xs) (map note_view v.items)) →
+    IfOk r (λ v. map note_text v.items ≡ map (note_listed (callee_view callee) (shown t) (types_given xs)) (map note_view v.items)) →
+    IfOk r (λ v. MatchOption (template_type template) (map note_text v.items ≡ []) (Explained callee xs (map note_text v.items)))
+all_explained callee template found t xs (Ok v) seen is notes texts = explained callee template found t xs _ _ seen is notes texts
+all_explained callee template found t xs (Err e) seen is notes texts = tt
+
+-- where no value has the text, none of a list is left
+none_left : {A : Type 0} (text : A → List ℕ) (name : List ℕ) → ((x : A) → ¬ name ≡ text x) → (xs : List A) → filter (λ x. bytes_eq name (text x)) xs ≡ []
+none_left text name none [] = refl
+none_left text name none (x ∷ xs) = rw (false_from_ne_true (bytes_eq name (text x)) (λ e. none x ((bytes_eq-Decides name (text x)).0 e))) (none_left text name none xs)
+
+-- what is read of a name
+no_value : {A : Type 0} (text : A → List ℕ) (name : List ℕ) (r : Result A ⊤) (e : ⊤) → Reads text name r → r ≡ Err e → (x : A) → ¬ name ≡ text x
+no_value text name r e reads is x same = let k : Err e ≡ Ok x = sym is ∙ (reads x).1 same in absurd (cc k)
+
+pub unary_listed : (name : List ℕ) (r : Result UnaryOperator ⊤) (o : UnaryOperator) → Reads unary_text name r → r ≡ Ok o → flat_map texts_listed (unary_operators_named name) ≡ texts_listed (a_unary o)
+unary_listed name r o reads is =
+    ap (λ n. flat_map texts_listed (unary_operators_named n)) ((reads o).0 is) ∙ ap (flat_map texts_listed) (one_unary o) ∙ append-nil (texts_listed (a_unary o))
+
+pub no_unary_listed : (name : List ℕ) (r : Result UnaryOperator ⊤) (e : ⊤) → Reads unary_text name r → r ≡ Err e → flat_map texts_listed (unary_operators_named name) ≡ []
+no_unary_listed name r e reads is =
+    ap (λ os. flat_map texts_listed (map a_unary os)) (none_left unary_text name (no_value unary_text name r e reads is) unary_operators)
+
+pub binary_listed : (name : List ℕ) (r : Result BinaryOperator ⊤) (o : BinaryOperator) → Reads binary_text name r → r ≡ Ok o → flat_map texts_listed (binary_operators_named name) ≡ texts_listed (a_binary o)
+binary_listed name r o reads is =
+    ap (λ n. flat_map texts_listed (binary_operators_named n)) ((reads o).0 is) ∙ ap (flat_map texts_listed) (one_binary o) ∙ append-nil (texts_listed (a_binary o))
+
+pub no_binary_listed : (name : List ℕ) (r : Result BinaryOperator ⊤) (e : ⊤) → Reads binary_text name r → r ≡ Err e → flat_map texts_listed (binary_operators_named name) ≡ []
+no_binary_listed name r e reads is =
+    ap (λ os. flat_map texts_listed (map a_binary os)) (none_left binary_text name (no_value binary_text name r e reads is) binary_operators)

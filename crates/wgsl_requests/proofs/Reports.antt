@@ -1,18 +1,33 @@
--- The lines of a struct's layout.
-use Rattle.std.proofs.Common.{◌≡◌, ◌⊎◌, inl, inr, ℕ, List, [], ◌∷◌, ◌++◌, codes, decimal, string_bytes, refl, sym, ap, ◌∙◌, append_assoc, rules}
-use Rattle.wgsl_rules.specs.types.Types.{WgslType, Members}
-use Rattle.wgsl_rules.specs.types.Spelling.{spelling}
-use Rattle.wgsl_core.specs.View.{member_view, struct_view, view}
-use Rattle.wgsl_core.specs.Layout.{layouts_of, offsets_of}
+-- What `{:>10}` writes, and the lines of a struct's layout.
+use Rattle.wgsl_requests.proofs.Shared.{◌≡◌, ℕ, zero, suc, ◌-◌, ◌^◌, false, List, [], ◌∷◌, ◌++◌, length, replicate, codes, refl, ap, arith, append-nil}
+use Rattle.wgsl_requests.proofs.Shared.{padded_integral, format_spec, char_count, styled_text, padded, take_chars, repeat, column, ◌⊎◌, inl, inr, decimal}
+use Rattle.wgsl_requests.proofs.Shared.{string_bytes, sym, ◌∙◌, append_assoc, rules, WgslType, Members, spelling, member_view, struct_view, view, layouts_of}
+use Rattle.wgsl_requests.proofs.Shared.{offsets_of, StructLayout, the_lemmas, columns, member_line, member_lines, struct_line, layout_text, layout_view}
+use Rattle.wgsl_requests.proofs.Shared.{placed_line, placed_lines}
+use lib.Utf8.{encode}
 use Rattle.wgsl_core.specs.internal.View.{members_view}
 use Rattle.wgsl_core.specs.declared.layout.PlacedMember.{PlacedMember}
-use Rattle.wgsl_core.specs.declared.layout.StructLayout.{StructLayout}
-use Rattle.wgsl_core.specs.declared.ty.Type.{the_lemmas}
 use Rattle.wgsl_core.specs.declared.ty.StructType.{StructType, out-StructType}
 use Rattle.wgsl_core.specs.declared.ty.StructMemberType.{StructMemberType, out-StructMemberType}
-use Rattle.wgsl_requests.specs.Layouts.{column, columns, member_line, member_lines, struct_line, layout_text}
-use Rattle.wgsl_requests.specs.Views.{layout_view}
-use Rattle.wgsl_requests.specs.internal.Written.{placed_line, placed_lines}
+
+spaces : (n : ℕ) → repeat {A = ℕ} n (32 ∷ []) ≡ replicate n 32
+spaces zero = refl
+spaces (suc n) = ap (λ xs. 32 ∷ xs) (spaces n)
+
+filled : (n : ℕ) (text : List ℕ) → repeat {A = ℕ} n (32 ∷ []) ++ [] ++ [] ++ [] ++ (text ++ repeat {A = ℕ} (n - n) (32 ∷ [])) ≡ replicate n 32 ++ text
+filled n text =
+    let none : n - n ≡ 0 = omega arith in
+    simp (none, append-nil, spaces)
+
+pub number_in_column : (text : List ℕ) → padded_integral (format_spec 32 3 0 10 (2 ^ 64 - 1)) false [] text ≡ column text
+unfolding padded_integral char_count encode
+number_in_column text =
+    let e : 10 - length text - 0 - 0 ≡ 10 - length text = omega arith in
+    rw e (filled (10 - length text) text)
+
+pub dash_in_column : styled_text (format_spec 32 3 0 10 (2 ^ 64 - 1)) (codes "-") ≡ column (codes "-")
+unfolding padded char_count take_chars encode
+dash_in_column = refl
 
 pub name_seen : (m : StructMemberType) → (member_view m).name ≡ string_bytes (out-StructMemberType m).name
 name_seen m = search (rules, the_lemmas)

@@ -1,20 +1,11 @@
 -- What the library returns, as an answer shows it.
-use Rattle.std.proofs.Common.{◌≡◌, ℕ, Vec, Global, Option, Some, None, Result, Ok, Err, refl, subst}
-use Rattle.std.specs.Prelude.{option_map, IfSome}
-use Rattle.std.specs.declared.alloc.AllocError.{AllocError}
-use Rattle.wgsl_syntax.specs.declared.rules.RuleSet.{RuleSet}
-use Rattle.wgsl_rules.specs.types.Types.{Members}
+use Rattle.wgsl_requests.proofs.Shared.{◌≡◌, ℕ, Vec, Global, Option, Some, None, Result, Ok, Err, refl, subst, option_map, IfSome, AllocError, RuleSet, Members}
+use Rattle.wgsl_requests.proofs.Shared.{AreOffsetsBy, HasNoSizeBy, IsLayoutOfBy, Fail, StructLayout, WgslRequest, layout_view, outcome}
 use Rattle.wgsl_rules.specs.errors.Refusals.{Refusal}
-use Rattle.wgsl_rules.specs.layout.Layout.{AreOffsetsBy, HasNoSizeBy}
 use Rattle.wgsl_core.specs.Answer.{AnswersAs, IsAnswered}
-use Rattle.wgsl_core.specs.Layout.{IsLayoutOfBy}
 use Rattle.wgsl_core.specs.declared.error.Error.{Error}
-use Rattle.wgsl_core.specs.declared.error.Fail.{Fail}
 use Rattle.wgsl_core.specs.declared.error.Fail.TheVariants as fails
-use Rattle.wgsl_core.specs.declared.layout.StructLayout.{StructLayout}
 use Rattle.wgsl_requests.specs.Answers.{Answers, AreOffsetsOf, IsLayoutOf, WgslAnswer}
-use Rattle.wgsl_requests.specs.Requests.{WgslRequest}
-use Rattle.wgsl_requests.specs.Views.{layout_view, outcome}
 
 pub settles : {A B : Type 0} (answered : Result B Refusal → WgslAnswer) (shown : A → B) (P : Result B Refusal → Type 0) (request : WgslRequest) {made : Result A (Fail Error)} (r : Result A (Fail Error)) →
     (made ≡ r) × IsAnswered r → AnswersAs shown P made → ((x : Result B Refusal) → P x → Answers request (answered x)) → Answers request (outcome answered shown r)

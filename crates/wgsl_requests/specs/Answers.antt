@@ -1,24 +1,14 @@
 -- The answers to requests.
 use Rattle.std.specs.Prelude.{◌≡◌, ℕ, List, Option, Some, None, Result}
-use Rattle.wgsl_syntax.specs.declared.operator.BinaryOperator.{BinaryOperator}
-use Rattle.wgsl_syntax.specs.declared.operator.UnaryOperator.{UnaryOperator}
-use Rattle.wgsl_syntax.specs.declared.rules.RuleSet.{RuleSet}
-use Rattle.wgsl_rules.specs.types.Types.{WgslType, Members}
-use Rattle.wgsl_rules.specs.types.Signatures.{Signature}
-use Rattle.wgsl_rules.specs.errors.Refusals.{Refusal}
+use Rattle.wgsl_requests.specs.Prelude.{BinaryOperator, UnaryOperator, RuleSet, WgslType, Members, Signature, Refusal, MemberLayout, IsOperatorAnswer}
+use Rattle.wgsl_requests.specs.Prelude.{IsUnaryAnswer, Operand, types_of, unknown_name, Fits, Taker, list_fits, FormRefusal}
 use Rattle.wgsl_rules.specs.Headline.{Receives}
 use Rattle.wgsl_rules.specs.conversion.Common.{IsLeftCommon}
 use Rattle.wgsl_rules.specs.conversion.Conversion.{Converts}
-use Rattle.wgsl_rules.specs.layout.Placement.{MemberLayout}
 use Rattle.wgsl_rules.specs.layout.Layout.{AreOffsetsBy, HasAlignmentBy, HasNoSizeBy, HasSizeBy, IsExactly, IsStructLayoutBy}
-use Rattle.wgsl_rules.specs.operators.Answers.{IsOperatorAnswer, IsUnaryAnswer}
 use Rattle.wgsl_rules.specs.constructors.Constructors.{IsConstructorAnswer}
 use Rattle.wgsl_rules.specs.calls.Answers.{IsCallAnswer}
-use Rattle.wgsl_rules.specs.standard.Choice.{Operand, types_of}
-use Rattle.wgsl_standard.specs.Callees.{unknown_name}
 use Rattle.wgsl_standard.specs.Lines.{lines_named}
-use Rattle.wgsl_forms.specs.Lists.{Fits, Taker, list_fits}
-use Rattle.wgsl_forms.specs.Refusals.{Refusal as FormRefusal}
 use Rattle.wgsl_requests.specs.Calls.{WgslCall, WgslResolution}
 use Rattle.wgsl_requests.specs.Forms.{WgslForm, IsFormType}
 use Rattle.wgsl_requests.specs.Standard.{IsExplanationOf, IsResolutionOf, IsTypeOf}

@@ -1,13 +1,8 @@
 -- Calls that are forms: `&x`, `*x` and `array(x, y)`, which have no overloads.
-use Rattle.std.specs.Prelude.{ℕ, List, [], ◌∷◌, Option, Some, None, codes, cond, option_map}
-use Rattle.std.specs.Str.{bytes_eq}
-use Rattle.wgsl_syntax.specs.declared.operator.UnaryOperator.{UnaryOperator}
+use Rattle.std.specs.Prelude.{ℕ, List, [], ◌∷◌, Option, Some, None, codes, cond, option_map, bytes_eq}
+use Rattle.wgsl_requests.specs.Prelude.{UnaryOperator, Operand, Parameter, of_literal, of_type, WgslType, WgslCallee, a_constructor, a_unary}
 use Rattle.wgsl_syntax.specs.declared.operator.UnaryOperator.TheVariants.{AddressOf, Indirection}
-use Rattle.wgsl_rules.specs.standard.Choice.{Operand}
 use Rattle.wgsl_rules.specs.templates.Templates.{count_of}
-use Rattle.wgsl_rules.specs.types.Signatures.{Parameter, of_literal, of_type}
-use Rattle.wgsl_rules.specs.types.Types.{WgslType}
-use Rattle.wgsl_standard.specs.Callees.{WgslCallee, a_constructor, a_unary}
 use Rattle.wgsl_forms.specs.declared.form.Referent.TheVariants.{Whole}
 use Rattle.wgsl_requests.specs.Calls.{WgslCall}
 use Rattle.wgsl_requests.specs.Forms.{WgslForm, address_of, array_of, indirection_of, typed_array_of}

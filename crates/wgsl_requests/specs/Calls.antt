@@ -1,9 +1,6 @@
 -- Calls as WGSL's own overloads take them.
 use Rattle.std.specs.Prelude.{ℕ, List, [], ◌∷◌, Option, Some, None, map}
-use Rattle.wgsl_rules.specs.types.Types.{WgslType}
-use Rattle.wgsl_rules.specs.types.Signatures.{Parameter, of_type}
-use Rattle.wgsl_rules.specs.standard.Choice.{Operand, value_of}
-use Rattle.wgsl_standard.specs.Callees.{WgslCallee}
+use Rattle.wgsl_requests.specs.Prelude.{WgslType, Parameter, of_type, Operand, value_of, WgslCallee}
 
 -- a call: its template, and its operands as they are written, before a reference is loaded
 pub record WgslCall : Type 0 where

@@ -4,18 +4,15 @@ use Rattle.wgsl_syntax.specs.declared.address.AccessMode.{AccessMode}
 use Rattle.wgsl_syntax.specs.declared.address.AddressSpace.{AddressSpace}
 use Rattle.wgsl_syntax.specs.declared.operator.AssignmentOperator.{AssignmentOperator}
 use Rattle.wgsl_syntax.specs.declared.scalar.Scalar.{Scalar}
-use Rattle.wgsl_rules.specs.types.Types.{WgslType, scalar}
-use Rattle.wgsl_rules.specs.standard.Choice.{Operand, types_of}
+use Rattle.wgsl_requests.specs.Prelude.{WgslType, scalar, Operand, types_of, constructed, FormRefusal as Refusal}
 use Rattle.wgsl_forms.specs.Address.{address_answer, indirection_answer}
 use Rattle.wgsl_forms.specs.Array.{IsInferredArray, typed_array}
 use Rattle.wgsl_forms.specs.Assign.{IsAssigned, incremented, operator_of}
 use Rattle.wgsl_forms.specs.Declare.{declared, overridden, taken}
 use Rattle.wgsl_forms.specs.Expressions.{Expression, shown_type}
 use Rattle.wgsl_forms.specs.Index.{index_answer}
-use Rattle.wgsl_forms.specs.Lists.{constructed}
 use Rattle.wgsl_forms.specs.Load.{loaded}
 use Rattle.wgsl_forms.specs.Member.{member_answer}
-use Rattle.wgsl_forms.specs.Refusals.{Refusal}
 use Rattle.wgsl_forms.specs.Switch.{switch_type}
 use Rattle.wgsl_forms.specs.Variable.{initialized_variable, variable}
 use Rattle.wgsl_forms.specs.declared.declare.Declaration.{Declaration}

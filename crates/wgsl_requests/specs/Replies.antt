@@ -1,5 +1,5 @@
 -- What a request gets.
-use Rattle.std.specs.Prelude.{◌≡◌, ◌≤◌, ◌++◌, ◌⊎◌, ℕ, Bool, List, IsUtf8, Option, Some, None, length, nat_eq}
+use Rattle.std.specs.Prelude.{◌≡◌, ◌≤◌, ◌++◌, ◌⊎◌, ℕ, Bool, List, IfOk, IsUtf8, Option, Some, None, Result, String, length, nat_eq, string_bytes}
 use Rattle.std.specs.List.{list_any}
 use Rattle.wgsl_requests.specs.Answers.{Answers, WgslAnswer}
 use Rattle.wgsl_requests.specs.Requests.{WgslRequest}
@@ -54,3 +54,8 @@ abbrev pub WritesReply : {W : Type 0} → (ReplyText → Type 0) → ReplyKind W
 WritesReply Holds k.Nothing old new = Holds nothing
 WritesReply Holds (k.Answer kind) old new = Adds (λ text. Holds (answer kind text)) old new
 WritesReply Holds (k.Unreadable why) old new = Holds unreadable
+
+-- the reply for which this holds is of the kind that a call returns, and an answer is written at the end of the text, unless it is
+-- out of memory
+abbrev pub Replies : {W Z E : Type 0} → (ReplyText → Type 0) → String Z → String Z → Result (ReplyKind W) E → Type 0
+Replies Holds old new r = IfOk r (λ kind. WritesReply Holds kind (string_bytes old) (string_bytes new))

@@ -1,12 +1,6 @@
 -- The requests.
 use Rattle.std.specs.Prelude.{ℕ, List}
-use Rattle.wgsl_syntax.specs.declared.operator.BinaryOperator.{BinaryOperator}
-use Rattle.wgsl_syntax.specs.declared.operator.UnaryOperator.{UnaryOperator}
-use Rattle.wgsl_syntax.specs.declared.rules.RuleSet.{RuleSet}
-use Rattle.wgsl_rules.specs.types.Types.{WgslType, Members}
-use Rattle.wgsl_rules.specs.types.Signatures.{Signature}
-use Rattle.wgsl_rules.specs.standard.Choice.{Operand}
-use Rattle.wgsl_forms.specs.Lists.{Taker}
+use Rattle.wgsl_requests.specs.Prelude.{BinaryOperator, UnaryOperator, RuleSet, WgslType, Members, Signature, Operand, Taker}
 use Rattle.wgsl_requests.specs.Calls.{WgslCall}
 use Rattle.wgsl_requests.specs.Forms.{WgslForm}
 

@@ -1,15 +1,9 @@
 -- What WGSL's own overloads answer.
-use Rattle.std.specs.Prelude.{◌≡◌, ℕ, List, [], ◌∷◌, Option, Some, None, false, true, map, MatchOption}
-use Rattle.std.specs.Bool.{MatchBool}
+use Rattle.std.specs.Prelude.{◌≡◌, ℕ, List, [], ◌∷◌, Option, Some, None, false, true, map, MatchOption, MatchBool}
 use Rattle.wgsl_syntax.specs.declared.overload.Overload.{Overload}
-use Rattle.wgsl_rules.specs.types.Types.{WgslType}
-use Rattle.wgsl_rules.specs.types.Signatures.{Parameter}
-use Rattle.wgsl_rules.specs.standard.Choice.{Operand, types_of}
+use Rattle.wgsl_requests.specs.Prelude.{WgslType, Parameter, Operand, types_of, WgslCallee, overloads_listed, IsCallResolution, note_listed}
 use Rattle.wgsl_rules.specs.standard.Answers.{is_template, template_operand, IsCallAnswer}
-use Rattle.wgsl_standard.specs.Callees.{WgslCallee, overloads_listed}
 use Rattle.wgsl_standard.specs.Explained.{AreNotes, or_none}
-use Rattle.wgsl_standard.specs.Resolved.{IsCallResolution}
-use Rattle.wgsl_standard.specs.Texts.{note_listed}
 use Rattle.wgsl_standard.specs.declared.refusal.Mismatch.{Mismatch}
 use Rattle.wgsl_requests.specs.Calls.{WgslCall, WgslResolution, loaded, template_type}
 

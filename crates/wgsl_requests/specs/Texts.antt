@@ -1,21 +1,52 @@
 -- How answers are written.
-use Rattle.std.specs.Prelude.{◌++◌, ℕ, List, [], ◌∷◌, Option, Some, None, Result, Ok, Err, codes, decimal}
-use Rattle.std.specs.List.{flat_map}
-use Rattle.wgsl_rules.specs.types.Types.{WgslType}
-use Rattle.wgsl_rules.specs.types.Spelling.{spelling, spelling_by, wgsl_spelling}
-use Rattle.wgsl_rules.specs.errors.Refusals.{Refusal, message}
-use Rattle.wgsl_rules.specs.standard.Choice.{types_of}
-use Rattle.wgsl_rules.specs.types.Signatures.{listed, template_text}
-use Rattle.wgsl_standard.specs.Callees.{unknown_name}
+use Rattle.std.specs.Prelude.{ℕ, ◌-◌, List, [], ◌∷◌, ◌++◌, codes, decimal, flat_map, length, replicate, ◌≡◌, Option, Some, None, Result, Ok, Err, OnOk, String, string_bytes}
+use Rattle.wgsl_requests.specs.Prelude.{WgslType, Members, member, spelling, MemberLayout, spelling_by, wgsl_spelling, Refusal, message, types_of, listed}
+use Rattle.wgsl_requests.specs.Prelude.{template_text, unknown_name, name_of, Fits, FormRefusal, refusal_text}
+use Rattle.wgsl_requests.specs.Answers.{WgslLayout, WgslAnswer, a_number, a_size, a_common_type, a_type, a_value, some_offsets, a_layout, a_type_of, a_resolution_of, some_lines, a_form_type, a_fit, out_of_memory}
 use Rattle.wgsl_standard.specs.Meant.{meant}
-use Rattle.wgsl_standard.specs.Texts.{name_of}
-use Rattle.wgsl_forms.specs.Lists.{Fits}
-use Rattle.wgsl_forms.specs.Refusals.{Refusal as FormRefusal, refusal_text}
 use Rattle.wgsl_requests.specs.Calls.{WgslCall, WgslResolution, loaded}
-use Rattle.wgsl_requests.specs.Answers.{WgslAnswer, a_number, a_size, a_common_type, a_type, a_value, some_offsets, a_layout, a_type_of, a_resolution_of, some_lines, a_form_type, a_fit, out_of_memory}
-use Rattle.wgsl_requests.specs.Layouts.{layout_text, spaced}
 use Rattle.wgsl_requests.specs.declared.reply.TextKind.{TextKind}
 use Rattle.wgsl_requests.specs.declared.reply.TextKind.TheVariants as kinds
+
+-- numbers with a space between: `0 16 32`
+abbrev pub spaced : List ℕ → List ℕ
+spaced [] = []
+spaced (n ∷ ns) = decimal n ++ flat_map (λ m. codes " " ++ decimal m) ns
+
+-- a text at the right of a column that is ten wide
+abbrev pub column : List ℕ → List ℕ
+column text = replicate (10 - length text) 32 ++ text
+
+-- three columns, each with a space after it
+abbrev pub columns : List ℕ → List ℕ → List ℕ → List ℕ
+columns first second third =
+    column first ++ codes " " ++ column second ++ codes " " ++ column third ++ codes " "
+
+-- a member's line: its offset, size and alignment, its name and its type
+--         16         12         16 b vec3<f32>
+abbrev pub member_line : ℕ → ℕ → ℕ → List ℕ → WgslType → List ℕ
+member_line offset size align name t =
+    columns (decimal offset) (decimal size) (decimal align)
+    ++ name ++ codes " " ++ spelling t ++ codes "\n"
+
+-- a line for each member
+abbrev pub member_lines : Members → List MemberLayout → List ℕ → List ℕ
+member_lines (member name t size align ms) (layout ∷ layouts) (offset ∷ offsets) =
+    member_line offset layout.size layout.align name t ++ member_lines ms layouts offsets
+member_lines ms layouts offsets = []
+
+-- the struct's line: its size, a dash, its alignment and its name
+--         32          -         16 S
+abbrev pub struct_line : List ℕ → ℕ → ℕ → List ℕ
+struct_line name size align = columns (decimal size) (codes "-") (decimal align) ++ name
+
+-- a line for each member, and one for the struct
+abbrev pub layout_text : List ℕ → Members → WgslLayout → List ℕ
+layout_text name ms l = member_lines ms l.layouts l.offsets ++ struct_line name l.size l.align
+
+-- the call writes this text at the end of another, unless it is out of memory
+abbrev pub Writes : {Z E : Type 0} → List ℕ → String Z → String Z → Result (Unit {0}) E → Type 0
+Writes text old new r = OnOk r (string_bytes new ≡ string_bytes old ++ text)
 
 -- the text of a value, or `none`
 abbrev pub or_none : {A : Type 0} → (A → List ℕ) → Option A → List ℕ

@@ -1,30 +1,56 @@
 -- How the rules see requests and answers.
 use Rattle.std.specs.Prelude.{Result, Ok, Err, map, option_map}
-use Rattle.wgsl_rules.specs.errors.Refusals.{Refusal, binary as refused_operands}
-use Rattle.wgsl_rules.specs.types.Types.{WgslType}
-use Rattle.wgsl_core.specs.Answer.{refusal}
+use Rattle.wgsl_requests.specs.Prelude.{Refusal, binary as refused_operands, Operand, WgslType, refusal, parameter_view, struct_view, view, Error, Fail}
+use Rattle.wgsl_requests.specs.Prelude.{answer_view as form_answer, form_type_view, taker_view, callee_view, given_type, result_view}
+use Rattle.wgsl_requests.specs.Prelude.{resolved_view as resolved_call_view, line_of, note_text}
 use Rattle.wgsl_core.specs.Layout.{layouts_of, offsets_of}
-use Rattle.wgsl_core.specs.View.{struct_view, view}
-use Rattle.wgsl_core.specs.declared.error.Error.{Error}
-use Rattle.wgsl_core.specs.declared.error.Fail.{Fail}
 use Rattle.wgsl_core.specs.declared.error.Fail.TheVariants as fails
 use Rattle.wgsl_core.specs.declared.layout.StructLayout.{StructLayout}
 use Rattle.wgsl_core.specs.declared.operators.resolve.ResolvedType.{ResolvedType}
 use Rattle.wgsl_core.specs.internal.Resolution.{resolved_view}
+use Rattle.wgsl_requests.specs.declared.requests.Call.{Call}
+use Rattle.wgsl_requests.specs.declared.requests.Form.{Form}
+use Rattle.wgsl_requests.specs.declared.requests.Form.TheVariants as forms
 use Rattle.wgsl_requests.specs.declared.requests.Request.{Request}
 use Rattle.wgsl_requests.specs.declared.requests.Request.TheVariants as requests
 use Rattle.wgsl_requests.specs.declared.answers.Operands.{Operands}
 use Rattle.wgsl_requests.specs.declared.answers.Answer.{Answer}
 use Rattle.wgsl_requests.specs.declared.answers.Answer.TheVariants as answers
 use Rattle.wgsl_calls.specs.Calls.{signature_of}
-use Rattle.wgsl_forms.specs.Views.{answer_view as form_answer, form_type_view, taker_view}
-use Rattle.wgsl_standard.specs.Results.{result_view}
-use Rattle.wgsl_standard.specs.Resolved.{resolved_view as resolved_call_view}
-use Rattle.wgsl_standard.specs.Texts.{line_of, note_text}
+use Rattle.wgsl_standard.specs.declared.operand.Operand.{Operand as CodeOperand}
+use Rattle.wgsl_requests.specs.Calls.{WgslCall}
+use Rattle.wgsl_requests.specs.Forms.{WgslForm, member_of, index_of, load_of, declaration_of, override_of, assignment_of, increment_of, discard_of, construct_of, switch_of, address_of, indirection_of, array_of, typed_array_of, variable_of, initialized_of}
 use Rattle.wgsl_requests.specs.Requests.{WgslRequest, rank, unary, binary, size, offsets, layout, ctor, call, type_of, resolution_of, explanation_of, overloads_of, form_of, fit_of}
 use Rattle.wgsl_requests.specs.Answers.{WgslAnswer, WgslLayout, a_number, a_size, a_type, a_value, some_offsets, a_layout, a_type_of, a_resolution_of, some_lines, a_form_type, a_fit, out_of_memory}
-use Rattle.wgsl_requests.specs.FormViews.{form_view}
-use Rattle.wgsl_requests.specs.StandardViews.{call_view as standard_view, written_view}
+
+-- an operand as it is written
+abbrev pub written_view : CodeOperand → Operand
+written_view x = record { of_type = given_type x.ty; is_constant = x.is_constant }
+
+abbrev pub call_view : Call → WgslCall
+call_view c = record {
+  callee = callee_view c.callee;
+  template = option_map (λ ps. map parameter_view ps.now) c.template;
+  operands = map written_view c.operands.now;
+}
+
+abbrev pub form_view : Form → WgslForm
+form_view (forms.Member x name) = member_of (written_view x) name.now
+form_view (forms.Index x i) = index_of (written_view x) (written_view i)
+form_view (forms.Load x) = load_of (written_view x)
+form_view (forms.Declaration d x t) = declaration_of d (written_view x) (option_map (λ t. view t.now) t)
+form_view (forms.Override t) = override_of (view t.now)
+form_view (forms.Assignment o x y) = assignment_of o (written_view x) (written_view y)
+form_view (forms.Increment x) = increment_of (written_view x)
+form_view (forms.Discard x) = discard_of (written_view x)
+form_view (forms.Construct t xs) = construct_of (view t.now) (map written_view xs.now)
+form_view (forms.Switch x ys) = switch_of (written_view x) (map written_view ys.now)
+form_view (forms.Address x r) = address_of (written_view x) r
+form_view (forms.Indirection x) = indirection_of (written_view x)
+form_view (forms.Array xs) = array_of (map written_view xs.now)
+form_view (forms.ArrayOf t n xs) = typed_array_of (view t.now) n (map written_view xs.now)
+form_view (forms.Variable s a t) = variable_of s a (view t.now)
+form_view (forms.Initialized s a x t) = initialized_of s a (written_view x) (option_map (λ t. view t.now) t)
 
 abbrev pub request_view : Request → WgslRequest
 request_view (requests.Rank t u) = rank (view t.now) (view u.now)
@@ -35,10 +61,10 @@ request_view (requests.Offsets rules s) = let seen = struct_view s.now in offset
 request_view (requests.Layout rules s) = let seen = struct_view s.now in layout rules seen.name seen.members
 request_view (requests.Constructor c) = ctor (signature_of c)
 request_view (requests.Call c) = call (signature_of c)
-request_view (requests.Type c) = type_of (standard_view c.now)
-request_view (requests.Resolution c) = resolution_of (standard_view c.now)
+request_view (requests.Type c) = type_of (call_view c.now)
+request_view (requests.Resolution c) = resolution_of (call_view c.now)
 request_view (requests.Overloads name) = overloads_of name.now
-request_view (requests.Explanation c) = explanation_of (standard_view c.now)
+request_view (requests.Explanation c) = explanation_of (call_view c.now)
 request_view (requests.Form f) = form_of (form_view f.now)
 request_view (requests.Fit taker xs ts) = fit_of (taker_view taker) (map written_view xs.now) (map view ts.now)
 
@@ -75,8 +101,8 @@ answer_view (answers.Binary r) = a_type (binary_view r)
 answer_view (answers.Offsets o) = some_offsets (option_map (λ v. v.items) o)
 answer_view (answers.Layout s l) =
     let seen = struct_view s.now in a_layout seen.name seen.members (option_map layout_view l)
-answer_view (answers.TypeOf c r) = a_type_of (standard_view c.now) (option_map (option_map result_view) r)
-answer_view (answers.Resolution c r) = a_resolution_of (standard_view c.now) (option_map resolved_call_view r)
+answer_view (answers.TypeOf c r) = a_type_of (call_view c.now) (option_map (option_map result_view) r)
+answer_view (answers.Resolution c r) = a_resolution_of (call_view c.now) (option_map resolved_call_view r)
 answer_view (answers.Overloads lines) = some_lines (map line_of lines.items)
 answer_view (answers.Notes notes) = some_lines (map note_text notes.items)
 answer_view (answers.FormType r) = a_form_type (form_answer form_type_view r)

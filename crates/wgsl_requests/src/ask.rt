@@ -1,16 +1,14 @@
 // Answers each request by the function that decides it.
 ghost use Rattle.std.specs.Prelude.{◌≡◌, IfOk, None};
 ghost use Rattle.wgsl_requests.specs.Answers.{Answers};
-ghost use Rattle.wgsl_rules.specs.operators.Answers.{IsOperatorAnswer};
-ghost use Rattle.wgsl_core.specs.Answer.{IsAnswered};
-ghost use Rattle.wgsl_core.specs.View.{view};
+ghost use Rattle.wgsl_requests.specs.Prelude.{IsOperatorAnswer, IsAnswered, view};
 ghost use Rattle.wgsl_requests.specs.Views.{answer_view, binary_view, request_view};
 
 use crate::answers::{Answer, Operands};
 use crate::forms::type_of_form;
-use crate::overloads::signatures_named;
+use crate::reply::Made;
 use crate::requests::Request;
-use crate::standard::{notes_on, resolution_of, type_of};
+use crate::standard::{notes_on, resolution_of, signatures_named, type_of};
 use std::alloc::{AllocError, Global};
 use wgsl_calls::call::type_builtin_fn;
 use wgsl_calls::constructor::type_ctor;
@@ -25,7 +23,7 @@ use wgsl_syntax::operator::BinaryOperator;
 
 /// The answer to the request.
 #[inline(always)]
-pub fn answer<'r>(alloc: Global, request: Request<'r>) -> Result<Answer<'r>, AllocError>
+pub fn answer<'r>(alloc: Global, request: Request<'r>) -> Made<Answer<'r>>
     ensures { IfOk result (λ a. Answers (request_view request.entry) (answer_view a)) }
 {
     match request {
@@ -84,7 +82,7 @@ fn resolved_type<'r>(
 
 /// The result of a call. If that is out of memory, this is the outer error.
 #[inline(always)]
-fn settled<T: Drop>(made: Result<T, Fail<Error>>) -> Result<Result<T, Fail<Error>>, AllocError>
+fn settled<T: Drop>(made: Result<T, Fail<Error>>) -> Made<Result<T, Fail<Error>>>
     ensures { IfOk result (λ same. (made ≡ same) × IsAnswered same) }
 {
     match out_of_memory(&made) {

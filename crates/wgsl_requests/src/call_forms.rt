@@ -1,11 +1,9 @@
 // Calls that are forms: `&x`, `*x` and `array(x, y)`, which have no overloads.
 ghost use Rattle.std.specs.Prelude.{◌≡◌, ◌∷◌, [], map, option_map};
-ghost use Rattle.wgsl_core.specs.Instances.{parameter_view};
-ghost use Rattle.wgsl_core.specs.View.{view};
+ghost use Rattle.wgsl_requests.specs.Prelude.{parameter_view, view};
 ghost use Rattle.wgsl_requests.specs.CallForms.{array_form as array_there, array_parameters as parameters_there, constructor_form as constructor_there, form_of_call, unary_form as unary_there};
 ghost use Rattle.wgsl_requests.specs.Forms.{typed_array_of};
-ghost use Rattle.wgsl_requests.specs.FormViews.{form_view};
-ghost use Rattle.wgsl_requests.specs.StandardViews.{call_view, written_view};
+ghost use Rattle.wgsl_requests.specs.Views.{call_view, form_view, written_view};
 
 use crate::requests::{Call, Form};
 use wgsl_calls::template::array::element_count;
@@ -63,29 +61,23 @@ fn constructor_form<'r>(
     }
 }
 
-fn array_form<'r>(
-    template: Option<&'r [TpltParam]>,
-    operands: &'r [Operand<'r>],
-) -> Option<Form<'r>>
+fn array_form<'r>(template: Option<&'r [TpltParam]>, values: &'r [Operand<'r>]) -> Option<Form<'r>>
     ensures { option_map form_view result ≡ array_there
-        (option_map (λ ps. map parameter_view ps.now) template.entry) (map written_view operands.now) }
+        (option_map (λ ps. map parameter_view ps.now) template.entry) (map written_view values.now) }
 {
     match template {
-        None => Some(Form::Array(operands)),
-        Some(parameters) => typed_array_form(parameters, operands),
+        None => Some(Form::Array(values)),
+        Some(parameters) => typed_array_form(parameters, values),
     }
 }
 
-fn typed_array_form<'r>(
-    parameters: &'r [TpltParam],
-    operands: &'r [Operand<'r>],
-) -> Option<Form<'r>>
+fn typed_array_form<'r>(parameters: &'r [TpltParam], values: &'r [Operand<'r>]) -> Option<Form<'r>>
     ensures { option_map form_view result
-        ≡ option_map (λ p. typed_array_of p.0 p.1 (map written_view operands.now))
+        ≡ option_map (λ p. typed_array_of p.0 p.1 (map written_view values.now))
         (parameters_there (map parameter_view parameters.now)) }
 {
     let (element, count) = array_parameters(parameters)?;
-    Some(Form::ArrayOf(element, count, operands))
+    Some(Form::ArrayOf(element, count, values))
 }
 
 /// The element type and the number of elements.

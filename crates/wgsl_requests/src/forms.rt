@@ -1,10 +1,8 @@
 // Forms that have no overloads.
 ghost use Rattle.std.specs.Prelude.{◌≡◌};
-ghost use Rattle.wgsl_core.specs.View.{view};
-ghost use Rattle.wgsl_standard.specs.Operands.{given_type};
-ghost use Rattle.wgsl_forms.specs.Views.{answer_view, form_type_view, form_view as expression_view, unbuilt_view};
+ghost use Rattle.wgsl_requests.specs.Prelude.{view, given_type, answer_view, form_type_view, form_view as expression_view, unbuilt_view};
 ghost use Rattle.wgsl_requests.specs.Forms.{IsFormType, of_scalar, type_alone};
-ghost use Rattle.wgsl_requests.specs.FormViews.{form_view};
+ghost use Rattle.wgsl_requests.specs.Views.{form_view};
 
 use crate::requests::Form;
 use wgsl_core::ty::Type;
@@ -25,7 +23,7 @@ use wgsl_syntax::overload::Dimensions;
 use wgsl_syntax::scalar::Scalar;
 
 /// The type of a form, or why it has none.
-pub(crate) fn type_of_form<'r>(form: &Form<'r>) -> Result<FormType<'r>, Refusal<'r>>
+pub fn type_of_form<'r>(form: &Form<'r>) -> Result<FormType<'r>, Refusal<'r>>
     ensures { IsFormType (form_view form.now) (answer_view form_type_view result) }
 {
     match form {

@@ -2,6 +2,11 @@
 ghost use Rattle.std.specs.Prelude.{◌≡◌};
 ghost use Rattle.wgsl_requests.specs.Replies as replies;
 
+use std::alloc::AllocError;
+
+/// What was made, unless memory ran out.
+pub type Made<T> = Result<T, AllocError>;
+
 /// How many bytes a request may have.
 pub const LONGEST: usize = 4096;
 

@@ -1,24 +1,26 @@
-// Calls by WGSL's own overloads.
-ghost use Rattle.std.specs.Prelude.{◌≡◌, Err, IfOk, MatchOption, Ok, map, option_map};
-ghost use Rattle.wgsl_core.specs.Instances.{parameter_view};
-ghost use Rattle.wgsl_core.specs.View.{view};
+// Calls by WGSL's own overloads, and the overloads of a name.
+ghost use Rattle.std.specs.Prelude.{◌≡◌, ◌++◌, Err, IfOk, MatchOption, Ok, flat_map, map, option_map};
+ghost use Rattle.wgsl_requests.specs.Prelude.{parameter_view, view, resolved_view, result_view, line_of, note_text, overload_texts, texts_listed};
 ghost use Rattle.wgsl_standard.specs.Answered.{IsRefused};
-ghost use Rattle.wgsl_standard.specs.Resolved.{resolved_view};
-ghost use Rattle.wgsl_standard.specs.Results.{result_view};
-ghost use Rattle.wgsl_standard.specs.Texts.{note_text};
+ghost use Rattle.wgsl_standard.specs.Lines.{binary_operators_named, lines_named, unary_operators_named};
 ghost use Rattle.wgsl_requests.specs.Calls.{template_type};
 ghost use Rattle.wgsl_requests.specs.Standard.{IsExplanationOf, IsResolutionOf, IsTypeOf};
-ghost use Rattle.wgsl_requests.specs.StandardViews.{call_view};
+ghost use Rattle.wgsl_requests.specs.Views.{call_view};
 
+use crate::reply::Made;
 use crate::requests::Call;
-use std::alloc::{AllocError, Global};
+use std::alloc::Global;
+use std::str::FromStr;
 use wgsl_core::error::Fail;
 use wgsl_core::signature::TpltParam;
 use wgsl_core::ty::Type;
 use wgsl_standard::answer::{NoOverload, type_of_call};
+use wgsl_standard::callee::Callee;
 use wgsl_standard::explanation::{Note, explain};
 use wgsl_standard::resolved::{ResolvedCall, resolve_callee};
+use wgsl_standard::signature::{Signature, signatures};
 use wgsl_standard::substitution::ResultType;
+use wgsl_syntax::operator::{BinaryOperator, UnaryOperator};
 
 /// The type that a template is; None if it is something else.
 #[inline(always)]
@@ -35,10 +37,7 @@ fn template_type(template: Option<&[TpltParam]>) -> Option<Option<&Type>>
 
 /// The type of a call, if it has a value.
 #[inline(always)]
-pub(crate) fn type_of(
-    alloc: Global,
-    call: &Call<'_>,
-) -> Result<Option<Option<ResultType>>, AllocError>
+pub(crate) fn type_of(alloc: Global, call: &Call<'_>) -> Made<Option<Option<ResultType>>>
     ensures { IfOk result (λ r. IsTypeOf (call_view call.now) (option_map (option_map result_view) r)) }
 {
     let Some(template) = template_type(call.template) else {
@@ -48,10 +47,7 @@ pub(crate) fn type_of(
 }
 
 /// What a call resolves to.
-pub(crate) fn resolution_of(
-    alloc: Global,
-    call: &Call<'_>,
-) -> Result<Option<ResolvedCall>, AllocError>
+pub(crate) fn resolution_of(alloc: Global, call: &Call<'_>) -> Made<Option<ResolvedCall>>
     ensures { IfOk result (λ r. IsResolutionOf (call_view call.now) (option_map resolved_view r)) }
 {
     let Some(template) = template_type(call.template) else {
@@ -62,7 +58,7 @@ pub(crate) fn resolution_of(
 
 /// The result, or None if the call has no answer.
 #[inline(always)]
-fn if_resolved<T: Drop>(made: Result<T, Fail<NoOverload>>) -> Result<Option<T>, AllocError>
+fn if_resolved<T: Drop>(made: Result<T, Fail<NoOverload>>) -> Made<Option<T>>
     ensures { IfOk result (λ found. MatchOption found (IsRefused made) (λ x. made ≡ Ok x)) }
 {
     match made {
@@ -73,11 +69,52 @@ fn if_resolved<T: Drop>(made: Result<T, Fail<NoOverload>>) -> Result<Option<T>, 
 }
 
 /// A note for each overload that doesn't take the operands of a call. There is none if its template isn't one type.
-pub(crate) fn notes_on<'r>(alloc: Global, call: &'r Call<'r>) -> Result<Vec<Note<'r>>, AllocError>
+pub(crate) fn notes_on<'r>(alloc: Global, call: &'r Call<'r>) -> Made<Vec<Note<'r>>>
     ensures { IfOk result (λ v. IsExplanationOf (call_view call.now) (map note_text v.items)) }
 {
     let Some(template) = template_type(call.template) else {
         return Ok(Vec::new(alloc));
     };
     explain(alloc, call.callee, template, call.operands)
+}
+
+/// The signatures of all that has the name: the unary operator, the binary one, the built-in function, the constructor.
+pub(crate) fn signatures_named<'r>(alloc: Global, name: &'r str) -> Made<Vec<Signature<'r>>>
+    ensures { IfOk result (λ v. map line_of v.items ≡ lines_named name.now) }
+{
+    let mut all = Vec::new(alloc);
+    push_of_unary(alloc, &mut all, name)?;
+    push_of_binary(alloc, &mut all, name)?;
+    push_of(alloc, &mut all, Callee::Function(name))?;
+    push_of(alloc, &mut all, Callee::Constructor(name))?;
+    Ok(all)
+}
+
+fn push_of_unary<'r>(alloc: Global, all: &mut Vec<Signature<'r>>, name: &str) -> Made<()>
+    ensures { IfOk result (λ u. map line_of all.new.items
+        ≡ map line_of all.old.items ++ flat_map texts_listed (unary_operators_named name.now)) }
+{
+    match UnaryOperator::from_str(name) {
+        Ok(operator) => push_of(alloc, all, Callee::Unary(operator)),
+        Err(_) => Ok(()),
+    }
+}
+
+fn push_of_binary<'r>(alloc: Global, all: &mut Vec<Signature<'r>>, name: &str) -> Made<()>
+    ensures { IfOk result (λ u. map line_of all.new.items
+        ≡ map line_of all.old.items ++ flat_map texts_listed (binary_operators_named name.now)) }
+{
+    match BinaryOperator::from_str(name) {
+        Ok(operator) => push_of(alloc, all, Callee::Binary(operator)),
+        Err(_) => Ok(()),
+    }
+}
+
+/// Adds the signatures of what is called.
+fn push_of<'r>(alloc: Global, all: &mut Vec<Signature<'r>>, callee: Callee<'r>) -> Made<()>
+    ensures { IfOk result (λ u. map line_of all.new.items
+        ≡ map line_of all.old.items ++ overload_texts callee.entry) }
+{
+    let found = signatures(alloc, callee)?;
+    all.extend_from_slice(&found)
 }

@@ -1,13 +1,10 @@
 // How answers are written.
 ghost use Rattle.std.specs.Prelude.{◌≡◌, ◌++◌, IfOk, OnOk, decimal, option_map, string_bytes};
-ghost use Rattle.wgsl_rules.specs.errors.Refusals.{message};
-ghost use Rattle.wgsl_rules.specs.types.Spelling.{spelling, spelling_by};
-ghost use Rattle.wgsl_core.specs.View.{view};
-ghost use Rattle.wgsl_core.specs.internal.Resolution.{element_view, resolved_view};
-ghost use Rattle.wgsl_forms.specs.Views.{answer_view as form_answer, form_type_view};
+ghost use Rattle.wgsl_requests.specs.Prelude.{message, spelling, spelling_by, view, element_view, answer_view as form_answer, form_type_view};
+ghost use Rattle.wgsl_core.specs.internal.Resolution.{resolved_view};
 ghost use Rattle.wgsl_requests.specs.Answers.{a_type, a_value};
 ghost use Rattle.wgsl_requests.specs.Replies.{Adds, IsAnswer};
-ghost use Rattle.wgsl_requests.specs.Texts.{answer_text, fit_text, form_text, or_none, text_kind};
+ghost use Rattle.wgsl_requests.specs.Texts.{Writes, answer_text, fit_text, form_text, or_none, text_kind};
 ghost use Rattle.wgsl_requests.specs.Views.{answer_view, operands_refusal, outcome, request_view};
 ghost use Rattle.wgsl_requests.specs.internal.Written.{IsRefusal};
 
@@ -19,15 +16,15 @@ pub mod word;
 use crate::answers::{Answer, Operands};
 use crate::ask::answer;
 use crate::fast::number::write_number;
-use crate::reply::TextKind;
+use crate::fast::ty::write_type;
+use crate::reply::{Made, TextKind};
 use crate::requests::Request;
 use layout::{write_layout, write_offsets};
 use overloads::{write_notes, write_resolution_of, write_signatures, write_type_of};
-use std::alloc::{AllocError, Global};
+use std::alloc::Global;
 use wgsl_core::error::{Error, Fail};
 use wgsl_core::operators::resolve::{Element, ResolvedType};
 use wgsl_core::ty::Type;
-use wgsl_core::ty::show::ShownType;
 use wgsl_forms::form::FormType;
 use wgsl_forms::refusal::Refusal;
 use wgsl_syntax::overload::Dimensions;
@@ -35,11 +32,7 @@ use wgsl_syntax::rules::RuleSet;
 
 /// Writes the answer to the request at the end of the text, and returns of which kind it is.
 #[inline(always)]
-pub fn write_answer_to(
-    alloc: Global,
-    request: Request<'_>,
-    text: &mut String,
-) -> Result<TextKind, AllocError>
+pub fn write_answer_to(alloc: Global, request: Request<'_>, text: &mut String) -> Made<TextKind>
     ensures { IfOk result (λ kind. Adds (IsAnswer (request_view request.entry) kind)
         (string_bytes text.old) (string_bytes text.new)) }
 {
@@ -51,7 +44,7 @@ pub fn write_answer_to(
 
 /// Writes an answer at the end of the text, and returns of which kind it is.
 #[inline(always)]
-pub fn write(answer: &Answer<'_>, text: &mut String) -> Result<TextKind, AllocError>
+pub fn write(answer: &Answer<'_>, text: &mut String) -> Made<TextKind>
     ensures { IfOk result (λ kind. (kind ≡ text_kind (answer_view answer.now))
         × (string_bytes text.new ≡ string_bytes text.old ++ answer_text (answer_view answer.now))) }
 {
@@ -76,9 +69,8 @@ fn text_kind(answer: &Answer<'_>) -> TextKind
 }
 
 #[inline(always)]
-fn write_text(answer: &Answer<'_>, text: &mut String) -> Result<(), AllocError>
-    ensures { OnOk result (string_bytes text.new
-        ≡ string_bytes text.old ++ answer_text (answer_view answer.now)) }
+fn write_text(answer: &Answer<'_>, text: &mut String) -> Made<()>
+    ensures { Writes (answer_text (answer_view answer.now)) text.old text.new result }
 {
     match answer {
         Answer::Number(number) => write_number_or_none(text, *number),
@@ -104,12 +96,8 @@ fn write_text(answer: &Answer<'_>, text: &mut String) -> Result<(), AllocError>
 
 /// Writes the type of a form, or why it has none.
 #[inline(never)]
-fn write_form_type(
-    text: &mut String,
-    found: &Result<FormType<'_>, Refusal<'_>>,
-) -> Result<(), AllocError>
-    ensures { OnOk result (string_bytes text.new
-        ≡ string_bytes text.old ++ form_text (form_answer form_type_view found.now)) }
+fn write_form_type(text: &mut String, found: &Result<FormType<'_>, Refusal<'_>>) -> Made<()>
+    ensures { Writes (form_text (form_answer form_type_view found.now)) text.old text.new result }
 {
     match found {
         Ok(ty) => write!(text, "{ty}"),
@@ -119,9 +107,8 @@ fn write_form_type(
 
 /// Writes that the values fit, or why they don't.
 #[inline(never)]
-fn write_fit(text: &mut String, found: &Result<(), Refusal<'_>>) -> Result<(), AllocError>
-    ensures { OnOk result (string_bytes text.new
-        ≡ string_bytes text.old ++ fit_text (form_answer (λ u. tt) found.now)) }
+fn write_fit(text: &mut String, found: &Result<(), Refusal<'_>>) -> Made<()>
+    ensures { Writes (fit_text (form_answer (λ u. tt) found.now)) text.old text.new result }
 {
     match found {
         Ok(()) => text.push_str("fits"),
@@ -131,53 +118,39 @@ fn write_fit(text: &mut String, found: &Result<(), Refusal<'_>>) -> Result<(), A
 
 /// Writes a number, or `none`.
 #[inline(always)]
-fn write_number_or_none(text: &mut String, number: Option<u32>) -> Result<(), AllocError>
-    ensures { OnOk result (string_bytes text.new ≡ string_bytes text.old ++ or_none decimal number) }
+fn write_number_or_none(text: &mut String, number: Option<u32>) -> Made<()>
+    ensures { Writes (or_none decimal number) text.old text.new result }
 {
     match number {
-        Some(number) => write_number(text, number),
+        Some(number) => write_number(text, u64::from(number)),
         None => text.push_str("none"),
     }
 }
 
-pub(crate) fn write_type_or_none(
-    text: &mut String,
-    rules: RuleSet,
-    ty: Option<&Type>,
-) -> Result<(), AllocError>
-    ensures { OnOk result (string_bytes text.new
-        ≡ string_bytes text.old ++ or_none (spelling_by rules) (option_map (λ t. view t.now) ty.entry)) }
+pub(crate) fn write_type_or_none(text: &mut String, rules: RuleSet, ty: Option<&Type>) -> Made<()>
+    ensures { Writes (or_none (spelling_by rules) (option_map (λ t. view t.now) ty.entry)) text.old text.new result }
 {
     match ty {
-        Some(ty) => write_shown(text, rules, ty),
+        Some(ty) => write_type(text, rules, ty),
         None => text.push_str("none"),
     }
-}
-
-/// Writes a type by these rules.
-fn write_shown(text: &mut String, rules: RuleSet, ty: &Type) -> Result<(), AllocError>
-    ensures { OnOk result (string_bytes text.new
-        ≡ string_bytes text.old ++ spelling_by rules (view ty.now)) }
-{
-    write!(text, "{}", ShownType { ty, rules })
 }
 
 /// Writes a type that isn't built.
-fn write_resolved(text: &mut String, ty: ResolvedType<'_>) -> Result<(), AllocError>
-    ensures { OnOk result (string_bytes text.new
-        ≡ string_bytes text.old ++ spelling (resolved_view ty.entry)) }
+fn write_resolved(text: &mut String, ty: ResolvedType<'_>) -> Made<()>
+    ensures { Writes (spelling (resolved_view ty.entry)) text.old text.new result }
 {
     match ty.dimensions {
         Dimensions::Single => return write_element(text, ty.element),
         Dimensions::Vector(components) => {
             text.push_str("vec")?;
-            write_number(text, u32::from(components))?;
+            write_number(text, u64::from(components))?;
         }
         Dimensions::Matrix(columns, rows) => {
             text.push_str("mat")?;
-            write_number(text, u32::from(columns))?;
+            write_number(text, u64::from(columns))?;
             text.push('x')?;
-            write_number(text, u32::from(rows))?;
+            write_number(text, u64::from(rows))?;
         }
     }
     text.push('<')?;
@@ -185,20 +158,18 @@ fn write_resolved(text: &mut String, ty: ResolvedType<'_>) -> Result<(), AllocEr
     text.push('>')
 }
 
-fn write_element(text: &mut String, element: Element<'_>) -> Result<(), AllocError>
-    ensures { OnOk result (string_bytes text.new
-        ≡ string_bytes text.old ++ spelling (element_view element.entry)) }
+fn write_element(text: &mut String, element: Element<'_>) -> Made<()>
+    ensures { Writes (spelling (element_view element.entry)) text.old text.new result }
 {
     match element {
         Element::Scalar(scalar) => text.push_str(scalar.name()),
-        Element::Type(ty) => write_type(text, ty),
+        Element::Type(ty) => write_type(text, RuleSet::Ported, ty),
     }
 }
 
 /// Writes the message that an operator doesn't take operands.
-fn write_operands(text: &mut String, operands: Operands<'_>) -> Result<(), AllocError>
-    ensures { OnOk result (string_bytes text.new
-        ≡ string_bytes text.old ++ message (operands_refusal operands.entry)) }
+fn write_operands(text: &mut String, operands: Operands<'_>) -> Made<()>
+    ensures { Writes (message (operands_refusal operands.entry)) text.old text.new result }
 {
     let Operands { operator, lhs, rhs } = operands;
     write!(
@@ -209,45 +180,30 @@ fn write_operands(text: &mut String, operands: Operands<'_>) -> Result<(), Alloc
 
 /// Writes a type, or the message of a refusal.
 #[inline(always)]
-fn write_type_or_refusal(
-    text: &mut String,
-    made: &Result<Type, Fail<Error>>,
-) -> Result<(), AllocError>
-    ensures { OnOk result (string_bytes text.new
-        ≡ string_bytes text.old ++ answer_text (outcome a_type view made.now)) }
+fn write_type_or_refusal(text: &mut String, made: &Result<Type, Fail<Error>>) -> Made<()>
+    ensures { Writes (answer_text (outcome a_type view made.now)) text.old text.new result }
 {
     match made {
-        Ok(ty) => write_type(text, ty),
+        Ok(ty) => write_type(text, RuleSet::Ported, ty),
         Err(refused) => write_refusal(text, refused),
     }
 }
 
 /// Writes the type of a call, `no value`, or the message of a refusal.
 #[inline(always)]
-fn write_value_or_refusal(
-    text: &mut String,
-    returned: &Result<Option<Type>, Fail<Error>>,
-) -> Result<(), AllocError>
-    ensures { OnOk result (string_bytes text.new
-        ≡ string_bytes text.old ++ answer_text (outcome a_value (option_map view) returned.now)) }
+fn write_value_or_refusal(text: &mut String, value: &Result<Option<Type>, Fail<Error>>) -> Made<()>
+    ensures { Writes (answer_text (outcome a_value (option_map view) value.now)) text.old text.new result }
 {
-    match returned {
-        Ok(Some(ty)) => write_type(text, ty),
+    match value {
+        Ok(Some(ty)) => write_type(text, RuleSet::Ported, ty),
         Ok(None) => text.push_str("no value"),
         Err(refused) => write_refusal(text, refused),
     }
 }
 
-#[inline(never)]
-fn write_type(text: &mut String, ty: &Type) -> Result<(), AllocError>
-    ensures { OnOk result (string_bytes text.new ≡ string_bytes text.old ++ spelling (view ty.now)) }
-{
-    write!(text, "{ty}")
-}
-
 /// Writes the message of a refusal. Out of memory is none.
 #[inline(never)]
-fn write_refusal(text: &mut String, refused: &Fail<Error>) -> Result<(), AllocError>
+fn write_refusal(text: &mut String, refused: &Fail<Error>) -> Made<()>
     ensures { OnOk result (IsRefusal
         (λ e. string_bytes text.new ≡ string_bytes text.old ++ message e) refused.now) }
 {

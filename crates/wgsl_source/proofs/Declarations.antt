@@ -1,23 +1,20 @@
 -- The declarations that are read, one by one.
-use Rattle.std.proofs.Common.{◌≡◌, ◌≢◌, ℕ, zero, suc, true, false, Some, None, slice_get, is_some, List, [], ◌∷◌, ◌++◌, drop, take, map, ap, refl, subst, sym, ◌∙◌, append_assoc}
-use Rattle.std.proofs.lemmas.List.{append-nil, map-append, take-append-drop}
-use Rattle.std.specs.List.{All}
-use Rattle.std.proofs.lemmas.List.Elements.{All-cons, All-head, All-nil, All-tail}
-use Rattle.std.proofs.lemmas.Option.{same_Some}
-use Rattle.wgsl_reader.specs.declared.read.Event.{Event}
+use Rattle.std.proofs.Common.{◌≡◌, ◌≢◌, ◌⊎◌, inl, inr, Option, option_and_then, ℕ, zero, suc, true, false, Some, None, slice_get, List, [], ◌∷◌, ◌++◌, drop, take, map, ap, refl, subst, sym, ◌∙◌, append_assoc, append-nil, take-append-drop, All}
+use Rattle.wgsl_source.proofs.Common.{map-append, All-cons, All-head, All-nil, All-tail, same_Some, Event, AreSameMembers, Grows, inner, members_of, without_offset, Declaration, End, MeasuredType, Member, Scope, Struct, TypeKind, Types, Written, Text}
+use Rattle.wgsl_source.specs.Attributes.{IsSaid}
+use Rattle.wgsl_source.specs.declared.attribute.Name.TheVariants as name
 use Rattle.wgsl_source.specs.Declarations.{AreSites, BehindAttributes, IsSite, Site, attribute_len, declaration_len, end_at, len_to, list_len, no_attribute, one_attribute, one_more}
-use Rattle.wgsl_source.specs.TextStructs.{AreAllTold, AreMembers, AreTold, IsMember, IsStructAt, kept, left_out, misread_told, no_member, none_told, one_member, other_told}
-use Rattle.wgsl_source.specs.Members.{AreSameMembers, members_of, without_offset}
-use Rattle.wgsl_source.specs.internal.Read.{AreAll, AreListed, AreOf, IsDeclaration, IsFrom, IsMisread, IsOf, declaration, declared_by, kept_listed, left_listed, misread, no_declaration, no_other, none_listed, other_listed}
-use Rattle.wgsl_source.specs.declared.declaration.Declaration.{Declaration}
+use Rattle.wgsl_source.specs.TextDeclarations.{declared_by}
+use Rattle.wgsl_source.specs.WrittenTypes.{Environment, HasType, environment, index_of, meaning_of}
+use Rattle.wgsl_source.proofs.WrittenTypes.{still_type}
+use Rattle.wgsl_source.specs.TextStructs.{AreAllTold, AreMembers, AreMembersBy, AreTold, AreTyped, IsMember, IsStructAt, IsTyped, IsTypeNamed, a_struct, an_alias, kept, left_out, misread_told, no_member, none_told, one_member, other_told}
+use Rattle.wgsl_source.specs.internal.Read.{AreAll, AreListed, AreMeant, AreNamed, AreOf, IsDeclaration, IsFrom, IsMeant, IsMeantType, IsMisread, IsOf, IsReadAs, IsReadOfKind, Stays, declaration, kept_listed, left_listed, misread, no_declaration, no_other, none_listed, none_meant, one_meant, other_listed}
 use Rattle.wgsl_source.specs.declared.declaration.DeclarationKind.{DeclarationKind}
 use Rattle.wgsl_source.specs.declared.declaration.DeclarationKind.TheVariants as kinds
-use Rattle.wgsl_source.specs.declared.parts.End.{End}
+use Rattle.wgsl_source.specs.declared.measured.TypeKind.TheVariants as kind
 use Rattle.wgsl_source.specs.declared.parts.End.TheVariants as e
-use Rattle.wgsl_source.specs.declared.structure.Member.{Member}
-use Rattle.wgsl_source.specs.declared.structure.Struct.{Struct}
-use Rattle.wgsl_source.specs.declared.structure.Written.{Written}
-use Rattle.wgsl_source.specs.declared.text.Text.{Text}
+use Rattle.wgsl_source.specs.declared.scope.Meaning.{Meaning}
+use Rattle.wgsl_source.specs.declared.scope.Meaning.TheVariants as meaning
 
 -- one attribute more stands in front
 pub behind_one_more : (whole events rest : List Event) → attribute_len events ≢ 0 → rest ≡ drop (attribute_len events) events
@@ -40,38 +37,60 @@ rest_of (m ∷ ms) = ms
 placed_member : (t : Text) (events : List Event) (m n : Member) → without_offset m ≡ without_offset n → IsMember t events n → IsMember t events m
 placed_member t events m n same h = record {
   rest = h.rest;
+  behind = h.behind;
   attributes = h.attributes;
-  given = record {
-    attributes = h.given.attributes;
-    there = h.given.there;
-    sized = ap (λ (k : Member). is_some k.size_attribute) same ∙ h.given.sized;
-    aligned = ap (λ (k : Member). is_some k.align_attribute) same ∙ h.given.aligned;
-  };
+  there = h.there;
+  size = subst (λ (k : Member). IsSaid name.Size h.attributes k.size_attribute) (sym same) h.size;
+  align = subst (λ (k : Member). IsSaid name.Align h.attributes k.align_attribute) (sym same) h.align;
   named = record { name = ap (λ (k : Member). k.name.now) same ∙ h.named.name; place = ap (λ (k : Member). k.place) same ∙ h.named.place };
 }
 
--- the members at their offsets
-pub placed_declared : (t : Text) (ms ns : List Member) (events : List Event) → AreSameMembers ms ns → AreMembers t events ns → AreMembers t events ms
-unfolding head_or rest_of
-placed_declared t [] [] events same h = h
-placed_declared t [] (n ∷ ns) events same h = absurd (let no : [] ≡ without_offset n ∷ map without_offset ns = same in cc)
-placed_declared t (m ∷ ms) [] events same h = absurd (let no : without_offset m ∷ map without_offset ms ≡ [] = same in cc)
-placed_declared t (m ∷ ms) (n ∷ ns) events same (one_member some is rest) =
-    one_member some (placed_member t (take (len_to e.Member events) events) m n (ap (head_or m) same) is) (placed_declared t ms ns (drop (len_to e.Member events) events) (ap rest_of same) rest)
+placed_typed : (t : Text) (env : Environment) (events : List Event) (m n : Member) → without_offset m ≡ without_offset n → IsTyped t env events n → IsTyped t env events m
+placed_typed t env events m n same h = record {
+  rest = h.rest;
+  behind = h.behind;
+  written = subst (λ (ty : MeasuredType). HasType t env (inner h.rest) ty) (sym (ap (λ (k : Member). k.ty) same)) h.written;
+}
 
-module _ (t : Text) (whole events : List Event) (old : List Written)
-    (back : (more : List Member) → AreMembers t events more → AreMembers t whole (members_of old ++ more)) where
+-- the members at their offsets
+all_placed : (Is : List Event → Member → Type 0) → ((events : List Event) (m n : Member) → without_offset m ≡ without_offset n → Is events n → Is events m) → (ms ns : List Member) (events : List Event)
+    → AreSameMembers ms ns → AreMembersBy Is events ns → AreMembersBy Is events ms
+unfolding head_or rest_of
+all_placed Is one [] [] events same h = h
+all_placed Is one [] (n ∷ ns) events same h = absurd (let no : [] ≡ without_offset n ∷ map without_offset ns = same in cc)
+all_placed Is one (m ∷ ms) [] events same h = absurd (let no : without_offset m ∷ map without_offset ms ≡ [] = same in cc)
+all_placed Is one (m ∷ ms) (n ∷ ns) events same (one_member some is rest) =
+    one_member some (one (take (len_to e.Member events) events) m n (ap (head_or m) same) is) (all_placed Is one ms ns (drop (len_to e.Member events) events) (ap rest_of same) rest)
+
+pub placed_declared : (t : Text) (ms ns : List Member) (events : List Event) → AreSameMembers ms ns → AreMembers t events ns → AreMembers t events ms
+placed_declared t ms ns events same h = all_placed (IsMember t) (placed_member t) ms ns events same h
+
+pub all_placed_typed : (t : Text) (env : Environment) (ms ns : List Member) (events : List Event) → AreSameMembers ms ns → AreTyped t env events ns → AreTyped t env events ms
+all_placed_typed t env ms ns events same h = all_placed (IsTyped t env) (placed_typed t env) ms ns events same h
+
+-- types stay what they are
+pub still_typed : (t : Text) (a b : Scope) (x y : Types) (events : List Event) (m : Member) → Stays a b → Grows x y → IsTyped t (environment a x) events m → IsTyped t (environment b y) events m
+still_typed t a b x y events m s g h = record { rest = h.rest; behind = h.behind; written = still_type t a b x y (inner h.rest) m.ty s g h.written }
+
+pub all_still_typed : (t : Text) (a b : Scope) (x y : Types) {events : List Event} {ms : List Member} → Stays a b → Grows x y → AreTyped t (environment a x) events ms
+    → AreTyped t (environment b y) events ms
+all_still_typed t a b x y s g (no_member none) = no_member none
+all_still_typed t a b x y s g (one_member {events} {member} some is rest) =
+    one_member some (still_typed t a b x y (take (len_to e.Member events) events) member s g is) (all_still_typed t a b x y s g rest)
+
+module _ (Is : List Event → Member → Type 0) (whole events : List Event) (old : List Written)
+    (back : (more : List Member) → AreMembersBy Is events more → AreMembersBy Is whole (members_of old ++ more)) where
   -- one member more is read
   pub one_more_declared : (front rest : List Event) (new : List Written) (w : Written) → len_to e.Member events ≢ 0 → front ≡ take (len_to e.Member events) events
-      → rest ≡ drop (len_to e.Member events) events → IsMember t front w.member → new ≡ old ++ w ∷ [] → (more : List Member) → AreMembers t rest more
-      → AreMembers t whole (members_of new ++ more)
+      → rest ≡ drop (len_to e.Member events) events → Is front w.member → new ≡ old ++ w ∷ [] → (more : List Member) → AreMembersBy Is rest more
+      → AreMembersBy Is whole (members_of new ++ more)
   one_more_declared front rest new w some cut left is added more h =
-      subst (λ ms. AreMembers t whole ms) (sym (more_members old new w more added))
-      (back (w.member ∷ more) (one_member some (subst (λ es. IsMember t es w.member) cut is) (subst (λ es. AreMembers t es more) left h)))
+      subst (λ ms. AreMembersBy Is whole ms) (sym (more_members old new w more added))
+      (back (w.member ∷ more) (one_member some (subst (λ es. Is es w.member) cut is) (subst (λ es. AreMembersBy Is es more) left h)))
 
   -- none is left
-  pub all_are_declared : len_to e.Member events ≡ 0 → AreMembers t whole (members_of old)
-  all_are_declared none = subst (λ ms. AreMembers t whole ms) (append-nil (members_of old)) (back [] (no_member none))
+  pub all_are_declared : len_to e.Member events ≡ 0 → AreMembersBy Is whole (members_of old)
+  all_are_declared none = subst (λ ms. AreMembersBy Is whole ms) (append-nil (members_of old)) (back [] (no_member none))
 
 -- the next declaration begins behind its attributes and its list
 
@@ -148,6 +167,46 @@ pub all_at : (P : Declaration → Type 0) (ds : List Declaration) (i : ℕ) (d :
 all_at P [] i d is all = absurd (let no : None ≡ Some d = is in cc)
 all_at P (e ∷ es) zero d is all = subst P (same_Some e d is) (All-head P e es all)
 all_at P (e ∷ es) (suc i) d is all = all_at P es i d is (All-tail P e es all)
+
+-- what names stand for
+
+site_of : {t : Text} {sites : List Site} {ds : List Declaration} (i : ℕ) (d : Declaration) → AreOf t sites ds → slice_get ds i ≡ Some d → d.is_faulty ≡ false
+    → (k : ℕ) × (site : Site) × (slice_get sites k ≡ Some site) × IsOf t site d
+site_of i d no_other at readable = absurd (let no : None ≡ Some d = at in cc)
+site_of i d (no_declaration {site} none rest) at readable = let h = site_of i d rest at readable in (suc h.0, h.1, h.2, h.3)
+site_of {t} zero d (declaration {site} {d = x} of rest) at readable = (zero, site, refl, subst (λ (y : Declaration). IsOf t site y) (same_Some x d at) of)
+site_of (suc i) d (declaration of rest) at readable = let h = site_of i d rest at readable in (suc h.0, h.1, h.2, h.3)
+site_of {t} zero d (misread {d = x} isnt rest) at readable = absurd (never_read t x isnt (ap (λ (y : Declaration). y.is_faulty) (same_Some x d at) ∙ readable))
+site_of (suc i) d (misread isnt rest) at readable = site_of i d rest at readable
+
+meant_at : {t : Text} {ss : List Struct} {ds : List Declaration} {ms : List Meaning} (i : ℕ) (d : Declaration) (m : Meaning) → AreMeant t ss ds ms → slice_get ds i ≡ Some d → slice_get ms i ≡ Some m
+    → IsMeant t ss d m
+meant_at i d m none_meant at is = absurd (let no : None ≡ Some d = at in cc)
+meant_at {t} {ss} zero d m (one_meant {d = x} {m = n} h rest) at is = subst (λ (y : Declaration). IsMeant t ss y m) (same_Some x d at) (subst (λ (y : Meaning). IsMeant t ss x y) (same_Some n m is) h)
+meant_at (suc i) d m (one_meant h rest) at is = meant_at i d m rest at is
+
+of_struct : (t : Text) (ss : List Struct) (d : Declaration) (k : TypeKind) → IsReadOfKind t ss d k → (index : ℕ) × (k ≡ kind.Struct index) × IsReadAs t ss d index
+of_struct t ss d (kind.Struct index) h = (index, refl, h)
+of_struct t ss d k h = absurd h
+
+pub type_named : (t : Text) (ss : List Struct) (ds : List Declaration) (sites : List Site) (s : Scope) → AreOf t sites ds → AreMeant t ss ds s.meanings.items → AreNamed ds s → (name : List ℕ) (ty : MeasuredType)
+    → meaning_of s name ≡ Some (meaning.«Type» ty) → IsTypeNamed t ss sites name ty
+type_named t ss ds sites s are meant names name ty is = by (index_of s name) refl is
+  where
+    sort : (d : Declaration) → d.name.now ≡ name → IsMeantType t ss d ty → (k : ℕ) (site : Site) → slice_get sites k ≡ Some site → IsOf t site d → (d.kind ≡ kinds.Struct) ⊎ (d.kind ≡ kinds.Alias)
+        → IsTypeNamed t ss sites name ty
+    sort d called h k site there of (inl struct) =
+        let read = of_struct t ss d ty.kind (h.struct struct) in
+        a_struct read.0 read.2.struct read.1 read.2.there (read.2.from.name ∙ called)
+    sort d called h k site there of (inr alias) = an_alias k site there (of.kind ∙ ap Some alias) (sym called ∙ of.named.name)
+
+    by : (o : Option ℕ) → index_of s name ≡ o → option_and_then (slice_get s.meanings.items) o ≡ Some (meaning.«Type» ty) → IsTypeNamed t ss sites name ty
+    by None at is = absurd (let no : None ≡ Some (meaning.«Type» ty) = is in cc)
+    by (Some i) at is =
+        let found = names name i at in
+        let h : IsMeantType t ss found.0 ty = meant_at i found.0 (meaning.«Type» ty) meant found.1 is in
+        let of = site_of i found.0 are found.1 h.readable in
+        sort found.0 found.2 h of.0 of.1 of.2 of.3 h.sort
 
 -- the structs of the declarations are those of the text
 

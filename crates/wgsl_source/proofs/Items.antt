@@ -1,21 +1,15 @@
 -- The names among items, while the events of a template list are read.
-use Rattle.std.proofs.Common.{◌≡◌, ◌≢◌, ℕ, ◌+◌, ◌<◌, List, [], ◌∷◌, ◌++◌, length, get_or, drop, true, false, IfOk, Result, Ok, Err, Option, Some, None, option_map, ap, refl, subst, sym, ◌∙◌, append_assoc, map}
-use Rattle.std.proofs.lemmas.List.{append-nil, at_drop_more}
+use Rattle.std.proofs.Common.{◌≡◌, ◌≢◌, ℕ, ◌+◌, ◌<◌, List, [], ◌∷◌, ◌++◌, length, get_or, drop, true, false, IfOk, Result, Ok, Err, Option, Some, None, option_map, ap, refl, subst, sym, ◌∙◌, append_assoc, map, append-nil}
+use Rattle.wgsl_source.proofs.Common.{at_drop_more, Event, word, access_text, default_access, may_say, token_before, AreSaid, Say, a_space, both, names_only, with_name, Text}
 use Rattle.wgsl_reader.specs.declared.mark.Mark.{Mark}
 use Rattle.wgsl_reader.specs.declared.mark.Mark.TheVariants as m
-use Rattle.wgsl_reader.specs.declared.read.Event.{Event}
 use Rattle.wgsl_reader.specs.declared.token.Token.{Token}
-use Rattle.wgsl_spelling.specs.Words.{word}
-use Rattle.wgsl_syntax.specs.Address.{access_text, default_access, may_say}
 use Rattle.wgsl_syntax.specs.declared.address.AccessMode.{AccessMode}
 use Rattle.wgsl_syntax.specs.declared.address.AddressSpace.{AddressSpace}
-use Rattle.wgsl_source.specs.Declarations.{token_before}
-use Rattle.wgsl_source.specs.Qualifiers.{AreSaid, Say, a_space, both, names_only, with_name}
 use Rattle.wgsl_source.specs.internal.Items.{HasAccess, NamesSpace, behind_event, behind_events, is_name, item_names, with_content, with_last}
 use Rattle.wgsl_source.specs.declared.item.Content.{Content}
 use Rattle.wgsl_source.specs.declared.item.Content.TheVariants as content
 use Rattle.wgsl_source.specs.declared.item.Item.{Item}
-use Rattle.wgsl_source.specs.declared.text.Text.{Text}
 
 -- an item is added
 

@@ -1,88 +1,131 @@
 -- What is kept of declarations, one by one.
-use Rattle.std.proofs.Common.{◌≡◌, ◌≢◌, ℕ, ◌+◌, ◌<◌, Bool, true, false, cond, Some, None, OnErr, OnOk, Result, Ok, Err, List, [], ◌∷◌, ◌++◌, get_or, length, take, IsTrue, arith, ap, refl, subst, sym, ◌∙◌, append_assoc}
+use Rattle.std.proofs.Common.{◌≡◌, ◌≢◌, ℕ, ◌+◌, ◌<◌, Bool, true, false, cond, Option, Some, None, IfOk, OnErr, OnOk, Result, Ok, Err, List, [], ◌∷◌, ◌++◌, get_or, length, take, arith, ap, refl, subst, sym, ◌∙◌, append_assoc, append-nil}
 use Rattle.std.specs.List.{dedup, dedup_from}
-use Rattle.std.proofs.lemmas.List.{append-nil, take_more}
-use Rattle.std.proofs.lemmas.Option.{same_Some}
-use Rattle.wgsl_reader.specs.declared.read.Event.{Event}
-use Rattle.wgsl_source.specs.Declarations.{Site, declared_type, end_at, inner}
-use Rattle.wgsl_source.specs.Qualifiers.{IsQualified}
-use Rattle.wgsl_source.specs.TextVariables.{AreKept, AreVariables, IsNoVariable, IsVariableAt, none_kept, one_kept, one_left}
-use Rattle.wgsl_source.specs.TextVariables as text
-use Rattle.wgsl_source.specs.internal.Others.{AddsKept, AddsOthers, IsNoVariableOf, IsToldIn, IsVariableFrom, IsVariableOf}
-use Rattle.wgsl_source.specs.internal.Others as read
-use Rattle.wgsl_source.specs.internal.Read.{AreAll, AreOf, IsMisread, IsOf, declaration, declared_by, misread, no_declaration, no_other}
-use Rattle.wgsl_source.specs.declared.declaration.Declaration.{Declaration}
+use Rattle.wgsl_source.proofs.Common.{take_more, same_Some, Event, Site, Declaration, Text}
+use Rattle.wgsl_source.specs.TextDeclarations.{AreAllDeclared, AreKept, HasDeclared, IsLeft, IsOne, Sort, declared_at, faulty, none, none_kept, of_aliases, of_entry_points, of_other_kind, of_overrides, of_variables, one_kept, one_left}
+use Rattle.wgsl_source.specs.internal.Others.{AddsKept, AddsOthers, IsAdded, IsKeptOf, IsLeftOf, IsReadOf, IsToldIn, declared_of, if_read, left, misread}
+use Rattle.wgsl_source.specs.internal.Read as read
+use Rattle.wgsl_source.specs.internal.Read.{AreAll, AreOf, IsOf, declaration, no_declaration, no_other}
+use Rattle.wgsl_source.specs.declared.declaration.DeclarationKind.{DeclarationKind}
 use Rattle.wgsl_source.specs.declared.declaration.DeclarationKind.TheVariants as kinds
 use Rattle.wgsl_source.specs.declared.fault.Fault.{Fault}
+use Rattle.wgsl_source.specs.declared.module.Module.{Module}
 use Rattle.wgsl_source.specs.declared.others.Others.{Others}
-use Rattle.wgsl_source.specs.declared.parts.End.{End}
-use Rattle.wgsl_source.specs.declared.parts.End.TheVariants as e
-use Rattle.wgsl_source.specs.declared.text.Text.{Text}
-use Rattle.wgsl_source.specs.declared.variable.Variable.{Variable}
 
-module _ {A B : Type 0} (IsKept : A → B → Type 0) where
-  kept_behind : (Is Isnt : A → Type 0) → ((a : A) → Is a → Isnt a) → {xs vs : List A} {ys ws : List B} → AreKept IsKept Is xs ys → AreKept IsKept Isnt vs ws
-      → AreKept IsKept Isnt (xs ++ vs) (ys ++ ws)
-  kept_behind Is Isnt all none_kept h = h
-  kept_behind Is Isnt all (one_kept is rest) h = one_kept is (kept_behind Is Isnt all rest h)
-  kept_behind Is Isnt all (one_left {a} is rest) h = one_left (all a is) (kept_behind Is Isnt all rest h)
+abbrev is_kind : DeclarationKind → DeclarationKind → Bool
+is_kind kinds.Alias kinds.Alias = true
+is_kind kinds.Struct kinds.Struct = true
+is_kind kinds.Constant kinds.Constant = true
+is_kind kinds.Override kinds.Override = true
+is_kind kinds.Variable kinds.Variable = true
+is_kind kinds.Function kinds.Function = true
+is_kind k other = false
 
-  pub adds_none : (Is : A → Type 0) (ys : List B) → AddsKept IsKept Is [] ys ys
-  adds_none Is ys = record { added = []; more = sym (append-nil ys); are = none_kept }
+is_itself : (k : DeclarationKind) → is_kind k k ≡ true
+is_itself kinds.Alias = refl
+is_itself kinds.Struct = refl
+is_itself kinds.Constant = refl
+is_itself kinds.Override = refl
+is_itself kinds.Variable = refl
+is_itself kinds.Function = refl
 
-  pub adds_further : (Is Isnt : A → Type 0) (xs vs : List A) (old now new : List B) → ((a : A) → Is a → Isnt a) → AddsKept IsKept Is xs old now → AddsKept IsKept Isnt vs now new
-      → AddsKept IsKept Isnt (xs ++ vs) old new
-  adds_further Is Isnt xs vs old now new all g h = record {
+module _ {A : Type 0} (sort : Sort A) where
+  weaker : (P Q : Type 0) → (P → Q) → (d : Declaration) → IsLeftOf sort P d → IsLeftOf sort Q d
+  weaker P Q all d (misread is) = misread is
+  weaker P Q all d (left (of_other_kind isnt)) = left (of_other_kind isnt)
+  weaker P Q all d (left (none h)) = left (none h)
+  weaker P Q all d (left (faulty h)) = left (faulty (all h))
+
+  kept_behind : (P Q : Type 0) → (P → Q) → {xs vs : List Declaration} {ys ws : List A} → AreKept (IsKeptOf sort) (IsLeftOf sort P) xs ys → AreKept (IsKeptOf sort) (IsLeftOf sort Q) vs ws
+      → AreKept (IsKeptOf sort) (IsLeftOf sort Q) (xs ++ vs) (ys ++ ws)
+  kept_behind P Q all none_kept h = h
+  kept_behind P Q all (one_kept is rest) h = one_kept is (kept_behind P Q all rest h)
+  kept_behind P Q all (one_left {a = d} is rest) h = one_left (weaker P Q all d is) (kept_behind P Q all rest h)
+
+  adds_none : (P : Type 0) (ys : List A) → AddsKept sort P [] ys ys
+  adds_none P ys = record { added = []; more = sym (append-nil ys); are = none_kept }
+
+  pub adds_left : (P : Type 0) (d : Declaration) (ys : List A) → IsLeftOf sort P d → AddsKept sort P (d ∷ []) ys ys
+  adds_left P d ys is = record { added = []; more = sym (append-nil ys); are = one_left is none_kept }
+
+  adds_further : (P Q : Type 0) (ds es : List Declaration) (old now new : List A) → (P → Q) → AddsKept sort P ds old now → AddsKept sort Q es now new → AddsKept sort Q (ds ++ es) old new
+  adds_further P Q ds es old now new all g h = record {
     added = g.added ++ h.added;
     more = h.more ∙ (ap (λ ys. ys ++ h.added) g.more ∙ append_assoc old g.added h.added);
-    are = kept_behind Is Isnt all g.are h.are;
+    are = kept_behind P Q all g.are h.are;
   }
 
-weaker : (P Q : Type 0) → (P → Q) → (d : Declaration) → IsNoVariableOf P d → IsNoVariableOf Q d
-weaker P Q all d (read.of_other_kind isnt) = read.of_other_kind isnt
-weaker P Q all d (read.untyped none) = read.untyped none
-weaker P Q all d (read.misread is) = read.misread is
-weaker P Q all d (read.faulty h) = read.faulty (all h)
+  -- what is read of a declaration
+  pub one_added : {E R F : Type 0} (result : Result R E) (read : Result (Option A) F) (d : Declaration) (old new : List A) → d.is_faulty ≡ false → d.kind ≡ sort.kind → IfOk read (IsReadOf sort d)
+      → OnOk result (IsAdded read old new) → OnErr result (new ≡ old) → AddsKept sort ⊥ (if_read result d) old new
+  one_added (Ok x) (Ok (Some a)) d old new readable kind is more same =
+      record { added = a ∷ []; more = more; are = one_kept (record { readable = readable; one = record { of_kind = ap Some kind; is = is } }) none_kept }
+  one_added (Ok x) (Ok None) d old new readable kind is more same = subst (λ ys. AddsKept sort ⊥ (d ∷ []) old ys) (sym more) (adds_left ⊥ d old (left (none is)))
+  one_added (Ok x) (Err e) d old new readable kind is more same = absurd more
+  one_added (Err e) read d old new readable kind is more same = subst (λ ys. AddsKept sort ⊥ [] old ys) (sym same) (adds_none ⊥ old)
+
+  other_added : {E R : Type 0} (result : Result R E) (d : Declaration) (ys : List A) → d.kind ≢ sort.kind → AddsKept sort ⊥ (if_read result d) ys ys
+  other_added (Ok x) d ys isnt = adds_left ⊥ d ys (left (of_other_kind (λ is. isnt (same_Some d.kind sort.kind is))))
+  other_added (Err e) d ys isnt = adds_none ⊥ ys
+
+  -- what is kept of a declaration, if it is of this kind; if it isn't, everything stays
+  abbrev AddsIf : {E R : Type 0} → Bool → Result R E → Declaration → List A → List A → Type 0
+  AddsIf true result d old new = AddsKept sort ⊥ (if_read result d) old new
+  AddsIf false result d old new = new ≡ old
+
+  by_kind : {E R : Type 0} (b : Bool) (result : Result R E) (d : Declaration) (k : DeclarationKind) (old new : List A) → is_kind k sort.kind ≡ b → d.kind ≡ k → AddsIf b result d old new
+      → AddsKept sort ⊥ (if_read result d) old new
+  by_kind true result d k old new of is h = h
+  by_kind false result d k old new other is same =
+      subst (λ ys. AddsKept sort ⊥ (if_read result d) old ys) (sym same) (other_added result d old (λ no. let bad : true ≡ false = sym (is_itself k) ∙ (ap (is_kind k) (sym is ∙ no) ∙ other) in cc))
+
+-- a declaration of this kind is read
+pub all_added : {E R : Type 0} (t : Text) (r : Result R E) (d : Declaration) (k : DeclarationKind) (a b : Others) → d.kind ≡ k
+    → AddsIf (of_variables t) (is_kind k kinds.Variable) r d a.variables.items b.variables.items → AddsIf (of_overrides t) (is_kind k kinds.Override) r d a.overrides.items b.overrides.items
+    → AddsIf (of_entry_points t) (is_kind k kinds.Function) r d a.entry_points.items b.entry_points.items → AddsIf (of_aliases t) (is_kind k kinds.Alias) r d a.aliases.items b.aliases.items
+    → AddsOthers t ⊥ (if_read r d) a b
+all_added t r d k a b is variables overrides entry_points aliases = record {
+  variables = by_kind (of_variables t) (is_kind k kinds.Variable) r d k a.variables.items b.variables.items refl is variables;
+  overrides = by_kind (of_overrides t) (is_kind k kinds.Override) r d k a.overrides.items b.overrides.items refl is overrides;
+  entry_points = by_kind (of_entry_points t) (is_kind k kinds.Function) r d k a.entry_points.items b.entry_points.items refl is entry_points;
+  aliases = by_kind (of_aliases t) (is_kind k kinds.Alias) r d k a.aliases.items b.aliases.items refl is aliases;
+}
 
 pub no_others : (t : Text) (P : Type 0) (a : Others) → AddsOthers t P [] a a
-no_others t P a = record { variables = adds_none (IsVariableOf t) (IsNoVariableOf P) a.variables.items }
+no_others t P a = record {
+  variables = adds_none (of_variables t) P a.variables.items;
+  overrides = adds_none (of_overrides t) P a.overrides.items;
+  entry_points = adds_none (of_entry_points t) P a.entry_points.items;
+  aliases = adds_none (of_aliases t) P a.aliases.items;
+}
+
+pub left_others : (t : Text) (P : Type 0) (d : Declaration) (a : Others) → ((A : Type 0) (sort : Sort A) → IsLeftOf sort P d) → AddsOthers t P (d ∷ []) a a
+left_others t P d a is = record {
+  variables = adds_left (of_variables t) P d a.variables.items (is _ (of_variables t));
+  overrides = adds_left (of_overrides t) P d a.overrides.items (is _ (of_overrides t));
+  entry_points = adds_left (of_entry_points t) P d a.entry_points.items (is _ (of_entry_points t));
+  aliases = adds_left (of_aliases t) P d a.aliases.items (is _ (of_aliases t));
+}
 
 pub others_further : (t : Text) (P Q : Type 0) (ds es : List Declaration) (a b c : Others) → (P → Q) → AddsOthers t P ds a b → AddsOthers t Q es b c → AddsOthers t Q (ds ++ es) a c
 others_further t P Q ds es a b c all g h = record {
-  variables =
-      adds_further (IsVariableOf t) (IsNoVariableOf P) (IsNoVariableOf Q) ds es a.variables.items b.variables.items c.variables.items (weaker P Q all) g.variables h.variables;
+  variables = adds_further (of_variables t) P Q ds es a.variables.items b.variables.items c.variables.items all g.variables h.variables;
+  overrides = adds_further (of_overrides t) P Q ds es a.overrides.items b.overrides.items c.overrides.items all g.overrides h.overrides;
+  entry_points = adds_further (of_entry_points t) P Q ds es a.entry_points.items b.entry_points.items c.entry_points.items all g.entry_points h.entry_points;
+  aliases = adds_further (of_aliases t) P Q ds es a.aliases.items b.aliases.items c.aliases.items all g.aliases h.aliases;
 }
 
 pub others_still : (t : Text) (P Q : Type 0) (ds : List Declaration) (a b : Others) → (P → Q) → AddsOthers t P ds a b → AddsOthers t Q ds a b
 others_still t P Q ds a b all g = subst (λ es. AddsOthers t Q es a b) (append-nil ds) (others_further t P Q ds [] a b b all g (no_others t Q b))
 
--- what is read of a declaration
-
-pub same_others : (t : Text) (P : Type 0) (a b : Others) → b.variables.items ≡ a.variables.items → AddsOthers t P [] a b
-same_others t P a b is = record { variables = record { added = []; more = is ∙ sym (append-nil a.variables.items); are = none_kept } }
-
-pub left_others : (t : Text) (P : Type 0) (d : Declaration) (a b : Others) → IsNoVariableOf P d → b.variables.items ≡ a.variables.items → AddsOthers t P (d ∷ []) a b
-left_others t P d a b isnt is = record { variables = record { added = []; more = is ∙ sym (append-nil a.variables.items); are = one_left isnt none_kept } }
-
-pub one_variable : (t : Text) (P : Type 0) (d : Declaration) (v : Variable) (a b : Others) → d.is_faulty ≡ false → d.kind ≡ kinds.Variable → IsVariableFrom t d v
-    → b.variables.items ≡ a.variables.items ++ v ∷ [] → AddsOthers t P (d ∷ []) a b
-one_variable t P d v a b readable kind from is = record {
-  variables = record { added = v ∷ []; more = is; are = one_kept (record { readable = readable; kind = kind; from = from }) none_kept };
-}
-
-pub read_and_told : {A E : Type 0} (r : Result A E) (t : Text) (d : Declaration) (a b : Others) (faults : List Fault) → OnOk r (AddsOthers t ⊥ (d ∷ []) a b) → OnErr r (AddsOthers t ⊥ [] a b)
-    → IsToldIn r faults → AddsOthers t (faults ≢ []) (d ∷ []) a b
-read_and_told (Ok x) t d a b faults h stopped told = others_still t ⊥ (faults ≢ []) (d ∷ []) a b (λ no. absurd no) h
-read_and_told (Err x) t d a b faults none h told =
-    others_further t ⊥ (faults ≢ []) [] (d ∷ []) a b b (λ no. absurd no) h (left_others t (faults ≢ []) d b b (read.faulty told) refl)
+pub read_and_told : {A E : Type 0} (r : Result A E) (t : Text) (d : Declaration) (a b : Others) (faults : List Fault) → AddsOthers t ⊥ (if_read r d) a b → IsToldIn r faults
+    → AddsOthers t (faults ≢ []) (d ∷ []) a b
+read_and_told (Ok x) t d a b faults h told = others_still t ⊥ (faults ≢ []) (d ∷ []) a b (λ no. absurd no) h
+read_and_told (Err x) t d a b faults h told = others_further t ⊥ (faults ≢ []) [] (d ∷ []) a b b (λ no. absurd no) h (left_others t (faults ≢ []) d b (λ A sort. left (faulty told)))
 
 pub on_ok_then : {A E : Type 0} (r : Result A E) (P Q : Type 0) → (P → Q) → OnOk r P → OnOk r Q
 on_ok_then (Ok x) P Q all h = all h
 on_ok_then (Err x) P Q all h = tt
-
-pub on_err : {A E : Type 0} (r : Result A E) (P : Type 0) → P → OnErr r P
-on_err (Ok x) P h = tt
-on_err (Err x) P h = h
 
 -- one declaration of a list is read
 pub one_of_all : (t s : Text) (P Q : Type 0) (ds : List Declaration) (i : ℕ) (d e : Declaration) (a b c : Others) → i < length ds → s ≡ t → (P → Q) → AddsOthers t P (take i ds) a b
@@ -121,51 +164,41 @@ module _ (E : Fault → Fault → Bool) where
   pub still_told : (old sorted new : List Fault) → length sorted ≡ length old → new ≡ dedup E sorted → old ≢ [] → new ≢ []
   still_told old sorted new same is some = subst (λ xs. xs ≢ []) (sym is) (some_stay sorted (long_as old sorted same some))
 
--- the variables of declarations are those of the text
+-- what declarations declare is what the text declares
 
-module _ (t : Text) (faults : List Fault) where
-  ends_variable : (end : End) → declared_by end ≡ Some kinds.Variable → end ≡ e.Variable
-  ends_variable e.Variable by = refl
-  ends_variable e.Attribute by = cc
-  ends_variable e.Typed by = cc
-  ends_variable e.Member by = cc
-  ends_variable e.Alias by = cc
-  ends_variable e.Struct by = cc
-  ends_variable e.Constant by = cc
-  ends_variable e.Override by = cc
-  ends_variable e.Function by = cc
-  ends_variable e.Assertion by = cc
-  ends_variable e.Directive by = cc
+module _ (t : Text) (P : Type 0) where
+  same_declared : (site : Site) (d : Declaration) → IsOf t site d → declared_of d ≡ declared_at t site
+  same_declared site d of =
+      let kind = of.kind in let name = of.named.name in let place = of.named.place in let attributes = of.attributes in let list = of.list in let rest = of.rest in cc
 
-  is_variable_at : (site : Site) (d : Declaration) (v : Variable) → IsOf t site d → IsVariableOf t d v → IsVariableAt t site v
-  is_variable_at site d v of h = record {
-    keyword = ends_variable (end_at t site.first) (of.kind ∙ ap Some h.kind);
-    named = record { name = h.from.name ∙ of.named.name; place = h.from.place ∙ of.named.place };
-    qualified = subst (λ es. IsQualified t es v.space v.access) of.list h.from.qualified;
-  }
+  module _ {A : Type 0} (sort : Sort A) where
+    kept_at_sites : {sites : List Site} {ds : List Declaration} {xs : List A} → AreOf t sites ds → AreKept (IsKeptOf sort) (IsLeftOf sort P) ds xs
+        → AreKept (λ site. IsOne sort (declared_at t site)) (λ site. IsLeft sort P (declared_at t site)) sites xs
+    kept_at_sites no_other none_kept = none_kept
+    kept_at_sites (no_declaration {site} isnt rest) h = one_left (of_other_kind (λ is. let no : Some sort.kind ≡ None = sym is ∙ isnt in cc)) (kept_at_sites rest h)
+    kept_at_sites (declaration {site} {sites} {d} of rest) (one_kept {b = a} is h) = one_kept (subst (λ x. IsOne sort x a) (same_declared site d of) is.one) (kept_at_sites rest h)
+    kept_at_sites (declaration {site} {sites} {d} of rest) (one_left (left is) h) = one_left (subst (λ x. IsLeft sort P x) (same_declared site d of) is) (kept_at_sites rest h)
+    kept_at_sites (declaration of rest) (one_left (misread is) h) = absurd (let no : false ≡ true = sym of.readable ∙ is in cc)
+    kept_at_sites (read.misread isnt rest) (one_kept is h) = absurd (let no : false ≡ true = sym is.readable ∙ isnt.faulty in cc)
+    kept_at_sites (read.misread isnt rest) (one_left is h) = kept_at_sites rest h
 
-  is_left : (site : Site) (d : Declaration) → IsOf t site d → IsNoVariableOf (faults ≢ []) d → IsNoVariable t faults site
-  is_left site d of (read.of_other_kind isnt) = text.of_other_kind (λ is. isnt (sym (same_Some kinds.Variable d.kind (sym (ap declared_by is) ∙ of.kind))))
-  is_left site d of (read.untyped none) = text.untyped (ap declared_type (sym of.rest) ∙ none)
-  is_left site d of (read.misread is) = absurd (let no : false ≡ true = sym of.readable ∙ is in cc)
-  is_left site d of (read.faulty h) = text.faulty h
-
-  no_variable : (site : Site) → declared_by (end_at t site.first) ≡ None → IsNoVariable t faults site
-  no_variable site none = text.of_other_kind (λ is. let no : Some kinds.Variable ≡ None = sym (ap declared_by is) ∙ none in cc)
-
-  kept_at_sites : {sites : List Site} {ds : List Declaration} {vs : List Variable} → AreOf t sites ds → AreKept (IsVariableOf t) (IsNoVariableOf (faults ≢ [])) ds vs
-      → AreKept (IsVariableAt t) (IsNoVariable t faults) sites vs
-  kept_at_sites no_other none_kept = none_kept
-  kept_at_sites (no_declaration {site} none rest) h = one_left (no_variable site none) (kept_at_sites rest h)
-  kept_at_sites (declaration {site} {sites} {d} of rest) (one_kept is h) = one_kept (is_variable_at site d _ of is) (kept_at_sites rest h)
-  kept_at_sites (declaration {site} {sites} {d} of rest) (one_left is h) = one_left (is_left site d of is) (kept_at_sites rest h)
-  kept_at_sites (misread {sites} {d} isnt rest) (one_kept is h) = absurd (let no : false ≡ true = sym is.readable ∙ isnt.faulty in cc)
-  kept_at_sites (misread isnt rest) (one_left is h) = kept_at_sites rest h
-
-  pub all_variables : (whole : List Event) (ds : List Declaration) (vs : List Variable) → AreAll t whole ds → AddsKept (IsVariableOf t) (IsNoVariableOf (faults ≢ [])) ds [] vs
-      → AreVariables t whole faults vs
-  all_variables whole ds vs are h = record {
+  all_kept : {A : Type 0} (sort : Text → Sort A) (whole : List Event) (ds : List Declaration) (old new found : List A) → AreAll t whole ds → AddsKept (sort t) P ds old new → old ≡ [] → found ≡ new
+      → AreAllDeclared sort t whole P found
+  all_kept sort whole ds old new found are h empty same = record {
     sites = are.sites;
-    there = are.there;
-    kept = kept_at_sites are.are (subst (λ xs. AreKept (IsVariableOf t) (IsNoVariableOf (faults ≢ [])) ds xs) (sym h.more) h.are);
+    stand = are.there;
+    kept = kept_at_sites (sort t) are.are (subst (λ xs. AreKept (IsKeptOf (sort t)) (IsLeftOf (sort t) P) ds xs) (sym (same ∙ (h.more ∙ ap (λ ys. ys ++ h.added) empty))) h.are);
   }
+
+pub has_declared : (t s : Text) (whole : List Event) (ds : List Declaration) (faults : List Fault) (a b : Others) (m : Module) → AreAll t whole ds → s ≡ t
+    → AddsOthers s (faults ≢ []) ds a b → a.variables.items ≡ [] → a.overrides.items ≡ [] → a.entry_points.items ≡ [] → a.aliases.items ≡ [] → m.faults.items ≡ faults
+    → m.variables ≡ b.variables → m.overrides ≡ b.overrides → m.entry_points ≡ b.entry_points → m.aliases ≡ b.aliases → HasDeclared t whole m
+has_declared t s whole ds faults a b m are same added variables overrides entry_points aliases told all_variables all_overrides all_entry_points all_aliases =
+    let P = m.faults.items ≢ [] in
+    let h = subst (λ fs. AddsOthers t (fs ≢ []) ds a b) (sym told) (subst (λ (u : Text). AddsOthers u (faults ≢ []) ds a b) same added) in
+    record {
+      variables = all_kept t P of_variables whole ds a.variables.items b.variables.items m.variables.items are h.variables variables (ap (λ v. v.items) all_variables);
+      overrides = all_kept t P of_overrides whole ds a.overrides.items b.overrides.items m.overrides.items are h.overrides overrides (ap (λ v. v.items) all_overrides);
+      entry_points = all_kept t P of_entry_points whole ds a.entry_points.items b.entry_points.items m.entry_points.items are h.entry_points entry_points (ap (λ v. v.items) all_entry_points);
+      aliases = all_kept t P of_aliases whole ds a.aliases.items b.aliases.items m.aliases.items are h.aliases aliases (ap (λ v. v.items) all_aliases);
+    }

@@ -1,21 +1,12 @@
 -- What declarations mean while they are read, and how they are listed.
-use Rattle.std.proofs.Common.{◌≡◌, ◌≢◌, ℕ, zero, suc, false, List, [], ◌∷◌, ◌++◌, ◌⊎◌, inl, inr, length, replicate, set, Some, map, ap, refl, subst, sym, ◌∙◌, append_assoc}
-use Rattle.std.specs.List.{slice_get}
-use Rattle.std.proofs.lemmas.Option.{same_Some}
-use Rattle.std.proofs.lemmas.List.{append-nil}
-use Rattle.wgsl_source.specs.Structs.{IsKept, Keeps, SameStructs}
-use Rattle.wgsl_source.specs.internal.Read.{AreAllMeant, AreListed, AreMeant, IsMeant, IsReadAs, IsReadOfKind, Lists, Means, kept_listed, left_listed, names_of, none_listed, none_meant, one_meant, other_listed}
-use Rattle.wgsl_source.specs.declared.declaration.Declaration.{Declaration}
+use Rattle.std.proofs.Common.{◌≡◌, ◌≢◌, ℕ, zero, suc, false, List, [], ◌∷◌, ◌++◌, ◌⊎◌, inl, inr, length, replicate, set, Some, map, ap, refl, subst, sym, ◌∙◌, append_assoc, slice_get, append-nil}
+use Rattle.wgsl_source.proofs.Common.{same_Some, IsKept, Keeps, SameStructs, Declaration, MeasuredType, TypeKind, Reader, Scope, Struct, Text}
+use Rattle.wgsl_source.specs.internal.Read.{AreAllMeant, AreListed, AreMeant, IsMeant, IsOfSort, IsReadAs, IsReadOfKind, Lists, Means, kept_listed, left_listed, names_of, none_listed, none_meant, one_meant, other_listed}
 use Rattle.wgsl_source.specs.declared.declaration.DeclarationKind.TheVariants as kinds
 use Rattle.wgsl_source.specs.declared.listed.Listed.{Listed}
-use Rattle.wgsl_source.specs.declared.measured.TypeKind.{TypeKind}
 use Rattle.wgsl_source.specs.declared.measured.TypeKind.TheVariants as kind
-use Rattle.wgsl_source.specs.declared.module.Reader.{Reader}
 use Rattle.wgsl_source.specs.declared.scope.Meaning.{Meaning}
 use Rattle.wgsl_source.specs.declared.scope.Meaning.TheVariants as meaning
-use Rattle.wgsl_source.specs.declared.scope.Scope.{Scope}
-use Rattle.wgsl_source.specs.declared.structure.Struct.{Struct}
-use Rattle.wgsl_source.specs.declared.text.Text.{Text}
 use Rattle.wgsl_source.proofs.Members.{still_at}
 use Rattle.wgsl_source.proofs.Structs.{Knows}
 
@@ -26,7 +17,7 @@ still_of_kind t ss more d (kind.Struct index) h = record { readable = h.readable
 still_of_kind t ss more d k h = absurd h
 
 still_meant : (t : Text) (ss more : List Struct) (d : Declaration) (m : Meaning) → IsMeant t ss d m → IsMeant t (ss ++ more) d m
-still_meant t ss more d (meaning.«Type» ty) h = λ struct. still_of_kind t ss more d ty.kind (h struct)
+still_meant t ss more d (meaning.«Type» ty) h = record { readable = h.readable; sort = h.sort; struct = λ struct. still_of_kind t ss more d ty.kind (h.struct struct) }
 still_meant t ss more d m h = h
 
 all_still_meant : {t : Text} {ss : List Struct} (more : List Struct) {ds : List Declaration} {ms : List Meaning} → AreMeant t ss ds ms → AreMeant t (ss ++ more) ds ms
@@ -77,19 +68,27 @@ last_at : (ss : List Struct) (s : Struct) → slice_get (ss ++ s ∷ []) (length
 last_at [] s = refl
 last_at (x ∷ ss) s = last_at ss s
 
-kept_meant : (t : Text) (d : Declaration) (old new : List Struct) (m : Meaning) → d.is_faulty ≡ false → (d.kind ≡ kinds.Struct → IsKept t d old new m) → IsMeant t new d m
-kept_meant t d old new (meaning.«Type» ty) readable all = λ struct.
-    let h = all struct in
-    let at : IsReadAs t new d (length old) =
-    record { readable = readable; struct = h.struct; there = subst (λ ss. slice_get ss (length old) ≡ Some h.struct) (sym h.kept) (last_at old h.struct); from = h.from } in
-    let of : IsMeant t new d (meaning.«Type» h.type) = λ is. subst (λ k. IsReadOfKind t new d k) (sym h.is.kind) at in
-    subst (λ n. IsMeant t new d n) (sym h.named) of struct
-kept_meant t d old new m readable all = tt
+type_or : MeasuredType → Meaning → MeasuredType
+type_or d (meaning.«Type» ty) = ty
+type_or d _ = d
+
+kept_meant : (t : Text) (d : Declaration) (old new : List Struct) (m : Meaning) → d.is_faulty ≡ false → IsOfSort d m → (d.kind ≡ kinds.Struct → IsKept t d old new m) → IsMeant t new d m
+unfolding type_or
+kept_meant t d old new (meaning.«Type» ty) readable sort all = record {
+  readable = readable;
+  sort = sort;
+  struct = λ struct.
+      let h = all struct in
+      let at : IsReadAs t new d (length old) =
+      record { readable = readable; struct = h.struct; there = subst (λ ss. slice_get ss (length old) ≡ Some h.struct) (sym h.kept) (last_at old h.struct); from = h.from } in
+      subst (λ (ty : MeasuredType). IsReadOfKind t new d ty.kind) (sym (ap (type_or ty) h.named)) (subst (λ k. IsReadOfKind t new d k) (sym h.is.kind) at);
+}
+kept_meant t d old new m readable sort all = tt
 
 pub kept_at : (t s : Text) (ds : List Declaration) (i : ℕ) (d : Declaration) (old new : List Struct) (m : Meaning) → s ≡ t → slice_get ds i ≡ Some d → d.is_faulty ≡ false
-    → (d.kind ≡ kinds.Struct → IsKept t d old new m) → (e : Declaration) → slice_get ds i ≡ Some e → IsMeant s new e m
-kept_at t s ds i d old new m same is readable all e at =
-    subst (λ (u : Text). IsMeant u new e m) (sym same) (subst (λ x. IsMeant t new x m) (same_Some d e (sym is ∙ at)) (kept_meant t d old new m readable all))
+    → IsOfSort d m → (d.kind ≡ kinds.Struct → IsKept t d old new m) → (e : Declaration) → slice_get ds i ≡ Some e → IsMeant s new e m
+kept_at t s ds i d old new m same is readable sort all e at =
+    subst (λ (u : Text). IsMeant u new e m) (sym same) (subst (λ x. IsMeant t new x m) (same_Some d e (sym is ∙ at)) (kept_meant t d old new m readable sort all))
 
 -- declarations are listed
 

@@ -1,14 +1,7 @@
 -- The size and the alignment of a type, from those of its scalar or of its element.
 use Rattle.std.proofs.Common.{◌≡◌, ◌≢◌, ℕ, inl, inr, Option, sym, subst, ◌∙◌}
-use Rattle.wgsl_syntax.specs.declared.rules.RuleSet.TheVariants.{Standard}
+use Rattle.wgsl_source.proofs.Common.{Standard, mat, scalar, vec, HasAlignmentBy, HasSizeBy, IsArraySize, IsExactly, IsScalarSize, IsTimes, array_size, times, IsValue, IsMeasure, IsMeasureOf, IsStrideOf, known_count, Count, MeasuredType}
 use Rattle.wgsl_syntax.specs.declared.scalar.Scalar.{Scalar}
-use Rattle.wgsl_rules.specs.types.Types.{mat, scalar, vec}
-use Rattle.wgsl_rules.specs.layout.Layout.{HasAlignmentBy, HasSizeBy, IsArraySize, IsExactly, IsScalarSize, IsTimes}
-use Rattle.wgsl_rules.proofs.layout.Steps.{array_size, times}
-use Rattle.wgsl_core.specs.Placing.{IsValue}
-use Rattle.wgsl_source.specs.Measures.{IsMeasure, IsMeasureOf, IsStrideOf, known_count}
-use Rattle.wgsl_source.specs.declared.measured.Count.{Count}
-use Rattle.wgsl_source.specs.declared.measured.MeasuredType.{MeasuredType}
 
 -- from a number that equals the one that was computed with
 times_of : (k j : ℕ) (o r : Option ℕ) (S : ℕ → Type 0) → j ≡ k → IsExactly o S → IsExactly r (IsTimes j (IsValue o)) → IsExactly r (IsTimes k S)

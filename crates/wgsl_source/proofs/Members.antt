@@ -1,32 +1,20 @@
 -- Members keep their sizes and alignments while element types are added, and while the members are placed.
-use Rattle.std.proofs.Common.{◌≡◌, ℕ, zero, suc, ◌+◌, ◌<◌, List, [], ◌∷◌, ◌++◌, length, get_or, take, map, Bool, false, if◌then◌else◌, IsSome, ◌↔◌, Option, Some, None, slice_get, refl, sym, ap, subst, ◌∙◌, append_assoc}
+use Rattle.std.proofs.Common.{◌≡◌, ℕ, zero, suc, ◌+◌, ◌<◌, List, [], ◌∷◌, ◌++◌, length, get_or, take, map, Bool, false, if◌then◌else◌, IsSome, ◌↔◌, Option, Some, None, slice_get, refl, sym, ap, subst, ◌∙◌, append_assoc, append-nil}
 use Rattle.std.specs.Option.{option_or}
-use Rattle.std.proofs.lemmas.List.{map-append, map_more}
-use Rattle.std.proofs.lemmas.List.Elements.{All-cons, All-head, All-nil, All-push, All-tail, All-weaker}
-use Rattle.std.proofs.lemmas.Option.{same_Some}
-use Rattle.wgsl_syntax.specs.declared.rules.RuleSet.TheVariants.{Standard}
-use Rattle.wgsl_rules.specs.types.Types.{Members}
-use Rattle.wgsl_rules.specs.layout.Layout.{HaveAlignmentsBy, HaveLayoutsBy, IsExactly, IsGiven, IsStructAlign, IsStructSize}
-use Rattle.wgsl_core.specs.Placing.{IsValue}
-use Rattle.wgsl_source.specs.Layout.{IsLaidOut, layouts_of}
+use Rattle.wgsl_source.proofs.Common.{map-append, map_more, All-cons, All-head, All-nil, All-push, All-tail, All-weaker, same_Some, Standard, Members, HaveAlignmentsBy, HaveLayoutsBy, IsExactly, IsGiven, IsStructAlign, IsStructSize, IsValue, IsLaidOut, layouts_of, IsStrideOf, Count, MeasuredType, TypeKind, Member, Struct, Written, Types}
 use Rattle.wgsl_source.specs.Members.{AreMeasured, AreSameMembers, EndsRuntimeSized, Grows, IsDraft, IsLeastSize, IsMeasuredMember, IsRuntimeSizedArray, IsSizeOfKind, IsTypeOf, members_of, without_offset}
-use Rattle.wgsl_source.specs.Measures.{IsStrideOf}
-use Rattle.wgsl_source.specs.declared.measured.Count.{Count}
 use Rattle.wgsl_source.specs.declared.measured.Count.TheVariants.{Runtime}
-use Rattle.wgsl_source.specs.declared.measured.MeasuredType.{MeasuredType}
-use Rattle.wgsl_source.specs.declared.measured.TypeKind.{TypeKind}
 use Rattle.wgsl_source.specs.declared.measured.TypeKind.TheVariants.{Array}
 use Rattle.wgsl_source.specs.declared.structure.Draft.{Draft}
-use Rattle.wgsl_source.specs.declared.structure.Member.{Member}
-use Rattle.wgsl_source.specs.declared.structure.Struct.{Struct}
-use Rattle.wgsl_source.specs.declared.structure.Written.{Written}
-use Rattle.wgsl_source.specs.declared.types.Types.{Types}
 
 pub grows_further : (a b c : Types) → Grows a b → Grows b c → Grows a c
 grows_further a b c g h = record {
   added = g.added ++ h.added;
   kept = h.kept ∙ (ap (λ es. es ++ h.added) g.kept ∙ append_assoc a.elements.items g.added h.added);
 }
+
+pub grows_same : (a : Types) → Grows a a
+grows_same a = record { added = []; kept = sym (append-nil a.elements.items) }
 
 pub still_at : {A : Type 0} (es fs : List A) (k : ℕ) (t : A) → slice_get es k ≡ Some t → slice_get (es ++ fs) k ≡ Some t
 still_at [] fs k t is = cc

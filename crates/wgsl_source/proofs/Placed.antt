@@ -1,20 +1,9 @@
 -- Members are placed one after another.
-use Rattle.std.proofs.Common.{◌≡◌, ℕ, ◌+◌, ◌<◌, ◌≤◌, ◌^◌, max, List, [], ◌∷◌, ◌++◌, Option, Some, refl, sym, ap, subst, ◌∙◌, arith, map}
-use Rattle.std.specs.Int.{next_multiple_of}
-use Rattle.std.proofs.lemmas.List.{append-nil}
-use Rattle.std.proofs.lemmas.Option.{same_Some}
-use Rattle.wgsl_syntax.specs.declared.rules.RuleSet.TheVariants.{Standard}
-use Rattle.wgsl_rules.specs.types.Types.{Members, no_members}
-use Rattle.wgsl_rules.specs.layout.Placement.{MemberLayout, greatest_align}
-use Rattle.wgsl_rules.specs.layout.Layout.{IsExactly, HaveLayoutsBy, IsRoundedUp, IsStride, IsStructSize, IsStructLayoutBy}
+use Rattle.std.proofs.Common.{◌≡◌, ℕ, ◌+◌, ◌<◌, ◌≤◌, ◌^◌, max, List, [], ◌∷◌, ◌++◌, Option, Some, refl, sym, ap, subst, ◌∙◌, arith, map, append-nil}
+use Rattle.wgsl_source.proofs.Common.{next_multiple_of, same_Some, Standard, Members, no_members, MemberLayout, greatest_align, IsExactly, HaveLayoutsBy, IsRoundedUp, IsStride, IsStructSize, IsStructLayoutBy, Aligned, end_of, starts, next_ge, one_rounded, rounded_up, IsSoonestEnd, IsSoonestOffset, IsValue, Member, IsLaidOut, layouts_of, offsets_of}
 use Rattle.wgsl_rules.proofs.layout.Offsets.{PlacedSoFar, all_placed}
-use Rattle.wgsl_rules.proofs.layout.Placing.{Aligned, end_of, starts, next_ge}
-use Rattle.wgsl_rules.proofs.layout.Steps.{one_rounded, rounded_up}
 use Rattle.wgsl_rules.proofs.layout.StructAligns.{alignments}
 use Rattle.wgsl_rules.proofs.layout.StructSizes.{IsFrom, struct_size}
-use Rattle.wgsl_core.specs.Placing.{IsSoonestEnd, IsSoonestOffset, IsValue}
-use Rattle.wgsl_source.specs.declared.structure.Member.{Member}
-use Rattle.wgsl_source.specs.Layout.{IsLaidOut, layouts_of, offsets_of}
 
 pub aligned_more : (ls : List MemberLayout) (l : MemberLayout) → Aligned ls → 0 < l.align → Aligned (ls ++ l ∷ [])
 aligned_more [] l al h = (h, tt)

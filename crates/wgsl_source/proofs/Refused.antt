@@ -1,24 +1,13 @@
 -- Members that can't be placed make no struct.
 use Rattle.std.proofs.Common.{◌≡◌, ℕ, ◌+◌, ◌<◌, ◌≤◌, ◌^◌, zero, suc, List, [], ◌∷◌, ◌++◌, Option, Some, None, inl, inr, length, get_or, take, map, refl, sym, ap, subst, ◌∙◌, append_assoc, arith}
-use Rattle.std.specs.Int.{◌∣◌, next_multiple_of}
+use Rattle.wgsl_source.proofs.Common.{◌∣◌, next_multiple_of, map-append, Standard, Members, no_members, member, MemberLayout, AreLaid, greatest_align, Aligned, end_of, laid_before, next_least, no_less, rounded_up, IsSoonestOffset, IsValue, Member, Written, HasNoLayout, layouts_of, AreSameMembers, members_of, without_offset}
 use Rattle.std.proofs.lemmas.Bool.{cases_lt}
-use Rattle.std.proofs.lemmas.List.{map-append}
-use Rattle.wgsl_syntax.specs.declared.rules.RuleSet.TheVariants.{Standard}
-use Rattle.wgsl_rules.specs.types.Types.{Members, no_members, member}
-use Rattle.wgsl_rules.specs.layout.Placement.{MemberLayout, AreLaid, greatest_align}
 use Rattle.wgsl_rules.specs.layout.Layout.{HasAlignmentBy, HasNoSizeBy, HaveLayoutsBy, IsExactly, IsGiven, IsStride, SomeZeroAlignBy, zero_align, empty, too_large}
 use Rattle.wgsl_rules.proofs.layout.OneSize.{one_layouts}
-use Rattle.wgsl_rules.proofs.layout.Placing.{Aligned, end_of, laid_before, next_least, no_less}
-use Rattle.wgsl_rules.proofs.layout.Steps.{rounded_up}
-use Rattle.wgsl_core.specs.Placing.{IsSoonestOffset, IsValue}
 use Rattle.wgsl_source.proofs.Placed.{ArePlaced, aligned_more, end_more}
 use Rattle.wgsl_source.specs.declared.fault.Stop.{Stop}
 use Rattle.wgsl_source.specs.declared.fault.Stop.TheVariants.{Elsewhere, Fault, Memory}
-use Rattle.wgsl_source.specs.declared.structure.Member.{Member}
-use Rattle.wgsl_source.specs.declared.structure.Written.{Written}
 use Rattle.wgsl_source.specs.Faults.{AtFault}
-use Rattle.wgsl_source.specs.Layout.{HasNoLayout, layouts_of}
-use Rattle.wgsl_source.specs.Members.{AreSameMembers, members_of, without_offset}
 
 -- the first members end before the whole
 laid_front : (e f : ℕ) (xs ys : List MemberLayout) (os : List ℕ) (total : ℕ) → Aligned xs → e ≤ f → AreLaid f (xs ++ ys) os total → end_of e xs ≤ total

@@ -1,14 +1,10 @@
 -- The declarations of a text, one by one.
-use Rattle.std.proofs.Common.{◌≡◌, ◌≢◌, ◌-◌, ◌≤◌, List, [], ◌∷◌, ◌++◌, false, None, Some, arith, drop, length, take, ap, refl, subst, sym, ◌∙◌, append_assoc}
-use Rattle.std.proofs.lemmas.List.{append-nil, length-drop}
-use Rattle.wgsl_reader.specs.declared.read.Event.{Event}
-use Rattle.wgsl_spelling.specs.Words.{word}
+use Rattle.std.proofs.Common.{◌≡◌, ◌≢◌, ◌-◌, ◌≤◌, List, [], ◌∷◌, ◌++◌, false, None, Some, arith, drop, length, take, ap, refl, subst, sym, ◌∙◌, append_assoc, append-nil, length-drop}
+use Rattle.wgsl_source.proofs.Common.{Event, word, Declaration, End, Text}
 use Rattle.wgsl_source.specs.Declarations.{AreSites, BehindAttributes, Site, attribute_len, end_at, end_by, first_count, inner, len_to, list_len, no_attribute, no_more, one_attribute, one_more, token_before}
-use Rattle.wgsl_source.specs.internal.Read.{Adds, AreAll, AreOf, IsMisread, IsNext, IsNone, IsOf, declaration, declared_by, misread, no_declaration, no_other}
-use Rattle.wgsl_source.specs.declared.declaration.Declaration.{Declaration}
+use Rattle.wgsl_source.specs.TextDeclarations.{declared_by}
+use Rattle.wgsl_source.specs.internal.Read.{Adds, AreAll, AreOf, IsMisread, IsNext, IsNone, IsOf, declaration, misread, no_declaration, no_other}
 use Rattle.wgsl_source.specs.declared.declaration.Read.{Read}
-use Rattle.wgsl_source.specs.declared.parts.End.{End}
-use Rattle.wgsl_source.specs.declared.text.Text.{Text}
 
 all_of : {t : Text} {a b : List Site} {xs ys : List Declaration} → AreOf t a xs → AreOf t b ys → AreOf t (a ++ b) (xs ++ ys)
 all_of no_other h = h

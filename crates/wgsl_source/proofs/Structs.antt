@@ -1,19 +1,12 @@
 -- The structs of a module stay laid out while others are added.
-use Rattle.std.proofs.Common.{OnOk, Result, Ok, Err, ◌≡◌, List, [], ◌∷◌, ◌++◌, sym, ap, subst, ◌∙◌, append_assoc}
-use Rattle.std.proofs.lemmas.List.{append-nil}
-use Rattle.std.proofs.lemmas.List.Elements.{All-append, All-cons, All-nil, All-weaker}
-use Rattle.std.specs.List.{All}
-use Rattle.wgsl_reader.specs.declared.read.Event.{Event}
-use Rattle.wgsl_source.specs.TextStructs.{AreMembers, IsDeclared}
-use Rattle.wgsl_source.specs.Members.{Grows}
-use Rattle.wgsl_source.specs.Structs.{AreStructsOf, IsStructOf, Keeps, SameStructs}
-use Rattle.wgsl_source.specs.internal.Read.{IsDeclaredAt, IsFrom, KnownAt}
-use Rattle.wgsl_source.specs.declared.declaration.Declaration.{Declaration}
-use Rattle.wgsl_source.specs.declared.module.Reader.{Reader}
-use Rattle.wgsl_source.specs.declared.structure.Struct.{Struct}
-use Rattle.wgsl_source.specs.declared.text.Text.{Text}
-use Rattle.wgsl_source.specs.declared.types.Types.{Types}
+use Rattle.std.proofs.Common.{OnOk, Result, Ok, Err, ◌≡◌, List, [], ◌∷◌, ◌++◌, sym, ap, subst, ◌∙◌, append_assoc, append-nil, All}
+use Rattle.wgsl_source.proofs.Common.{All-append, All-cons, All-nil, All-weaker, Event, AreMembers, IsDeclared, Grows, AreStructsOf, IsStructOf, Keeps, SameStructs, IsDeclaredAt, IsFrom, KnownAt, Declaration, Reader, Scope, Struct, Text, Types}
+use Rattle.wgsl_source.proofs.Declarations.{all_still_typed}
 use Rattle.wgsl_source.proofs.Members.{all_still_measured, grows_further}
+use Rattle.wgsl_source.proofs.WrittenTypes.{stays_further, stays_same}
+use Rattle.wgsl_source.specs.TextStructs.{AreTyped}
+use Rattle.wgsl_source.specs.WrittenTypes.{Environment, environment}
+use Rattle.wgsl_source.specs.internal.Read.{Stays}
 
 still_structs : (a b : Types) (ss : List Struct) → Grows a b → AreStructsOf a.elements.items ss → AreStructsOf b.elements.items ss
 still_structs a b ss g h =
@@ -30,6 +23,15 @@ on_ok (Err e) P h = tt
 abbrev pub Knows : Type 1
 Knows = Text → List Event → Type 0
 
+still_declared : (t : Text) (whole : List Event) (a b : Scope) (x y : Types) (s : Struct) → Stays a b → Grows x y → IsDeclared t (environment a x) whole s → IsDeclared t (environment b y) whole s
+still_declared t whole a b x y s stays g h = record {
+  front = h.front;
+  first = h.first;
+  there = h.there;
+  is = h.is;
+  types = all_still_typed t a b x y stays g h.types;
+}
+
 pub keeps_further : (Known : Knows) (a b c : Reader) → Keeps Known a b → Keeps Known b c → Keeps Known a c
 keeps_further Known a b c g h = record {
   grows = grows_further a.types b.types c.types g.grows h.grows;
@@ -37,9 +39,12 @@ keeps_further Known a b c g h = record {
   kept = h.kept ∙ (ap (λ ss. ss ++ h.added) g.kept ∙ append_assoc a.structs.items g.added h.added);
   laid_out = All-append (IsStructOf c.types.elements.items) g.added h.added (still_structs b.types c.types g.added h.grows g.laid_out) h.laid_out;
   text = h.text ∙ g.text;
+  names = stays_further a.scope b.scope c.scope g.names h.names;
   declared =
-      λ whole known. All-append (IsDeclared a.scope.text whole) g.added h.added (g.declared whole known)
-      (subst (λ (t : Text). Known t whole → All (IsDeclared t whole) h.added) g.text (h.declared whole) known);
+      λ whole known. All-append (IsDeclared a.scope.text (environment c.scope c.types) whole) g.added h.added
+      (All-weaker (IsDeclared a.scope.text (environment b.scope b.types) whole) (IsDeclared a.scope.text (environment c.scope c.types) whole)
+      (λ s one. still_declared a.scope.text whole b.scope c.scope b.types c.types s h.names h.grows one) g.added (g.declared whole known))
+      (subst (λ (t : Text). Known t whole → All (IsDeclared t (environment c.scope c.types) whole) h.added) g.text (h.declared whole) known);
 }
 
 -- what is known of less
@@ -50,38 +55,51 @@ keeps_if Known Less a b all h = record {
   kept = h.kept;
   laid_out = h.laid_out;
   text = h.text;
+  names = h.names;
   declared = λ whole known. h.declared whole (all whole known);
 }
 
--- only types are read
-pub keeps_grown : (Known : Knows) (a b : Reader) → Grows a.types b.types → b.structs.items ≡ a.structs.items → b.scope.text ≡ a.scope.text → Keeps Known a b
-keeps_grown Known a b g is text = record {
+-- no struct is read
+no_struct : (Known : Knows) (a b : Reader) → Grows a.types b.types → b.structs.items ≡ a.structs.items → b.scope.text ≡ a.scope.text → Stays a.scope b.scope → Keeps Known a b
+no_struct Known a b g is text names = record {
   grows = g;
   added = [];
   kept = is ∙ sym (append-nil a.structs.items);
   laid_out = All-nil (IsStructOf b.types.elements.items);
   text = text;
-  declared = λ whole known. All-nil (IsDeclared a.scope.text whole);
+  names = names;
+  declared = λ whole known. All-nil (IsDeclared a.scope.text (environment b.scope b.types) whole);
 }
 
-pub keeps_same : (Known : Knows) (a b : Reader) → SameStructs a b → Keeps Known a b
-keeps_same Known a b same =
-    keeps_grown Known a b (record { added = []; kept = ap (λ es. es.items) same.0 ∙ sym (append-nil a.types.elements.items) }) (ap (λ ss. ss.items) same.1) same.2
+pub keeps_grown : (Known : Knows) (a b : Reader) → Grows a.types b.types → b.structs.items ≡ a.structs.items → b.scope ≡ a.scope → Keeps Known a b
+keeps_grown Known a b g is scope = no_struct Known a b g is (ap (λ (s : Scope). s.text) scope) (stays_same a.scope b.scope scope)
+
+pub keeps_named : (Known : Knows) (a b : Reader) → SameStructs a b → Stays a.scope b.scope → Keeps Known a b
+keeps_named Known a b same names =
+    no_struct Known a b (record { added = []; kept = ap (λ es. es.items) same.0 ∙ sym (append-nil a.types.elements.items) }) (ap (λ ss. ss.items) same.1) same.2 names
+
+pub keeps_same : (Known : Knows) (a b : Reader) → SameStructs a b → b.scope ≡ a.scope → Keeps Known a b
+keeps_same Known a b same scope = keeps_named Known a b same (stays_same a.scope b.scope scope)
 
 -- a struct is read
 pub keeps_one : (d : Declaration) (a b : Reader) (s : Struct) → Grows a.types b.types → b.structs.items ≡ a.structs.items ++ s ∷ [] → IsStructOf b.types.elements.items s
-    → b.scope.text ≡ a.scope.text → IsFrom a.scope.text d s → Keeps (KnownAt d) a b
-keeps_one d a b s g is one text from = record {
+    → b.scope ≡ a.scope → IsFrom a.scope.text d s → AreTyped a.scope.text (environment a.scope b.types) d.rest.now s.members.items → Keeps (KnownAt d) a b
+keeps_one d a b s g is one scope from typed = record {
   grows = g;
   added = s ∷ [];
   kept = is;
   laid_out = All-cons (IsStructOf b.types.elements.items) s [] one (All-nil (IsStructOf b.types.elements.items));
-  text = text;
-  declared = λ whole known. All-cons (IsDeclared a.scope.text whole) s [] (is_declared a.scope.text whole d s known from) (All-nil (IsDeclared a.scope.text whole));
+  text = ap (λ (s : Scope). s.text) scope;
+  names = stays_same a.scope b.scope scope;
+  declared =
+      λ whole known. subst (λ (c : Scope). All (IsDeclared a.scope.text (environment c b.types) whole) (s ∷ [])) (sym scope)
+      (All-cons (IsDeclared a.scope.text (environment a.scope b.types) whole) s [] (is_declared a.scope.text (environment a.scope b.types) whole d s known from typed)
+      (All-nil (IsDeclared a.scope.text (environment a.scope b.types) whole)));
 }
   where
-    is_declared : (t : Text) (whole : List Event) (d : Declaration) (s : Struct) → IsDeclaredAt t whole d → IsFrom t d s → IsDeclared t whole s
-    is_declared t whole d s at from = record {
+    is_declared : (t : Text) (env : Environment) (whole : List Event) (d : Declaration) (s : Struct) → IsDeclaredAt t whole d → IsFrom t d s → AreTyped t env d.rest.now s.members.items
+        → IsDeclared t env whole s
+    is_declared t env whole d s at from typed = record {
       front = at.front;
       first = at.first;
       there = at.there;
@@ -90,11 +108,14 @@ keeps_one d a b s g is one text from = record {
         named = record { name = from.name ∙ at.named.name; place = from.place ∙ at.named.place };
         members = subst (λ es. AreMembers t es s.members.items) at.rest from.members;
       };
+      types = subst (λ es. AreTyped t env es s.members.items) at.rest typed;
     }
 
 -- all structs are read
 pub all_kept : (Known : Knows) (a b : Reader) → a.structs.items ≡ [] → Keeps Known a b → AreStructsOf b.types.elements.items b.structs.items
 all_kept Known a b none h = subst (λ (ss : List Struct). AreStructsOf b.types.elements.items ss) (sym (h.kept ∙ ap (λ ss. ss ++ h.added) none)) h.laid_out
 
-pub all_declared : (Known : Knows) (a b : Reader) → a.structs.items ≡ [] → Keeps Known a b → (whole : List Event) → Known a.scope.text whole → All (IsDeclared a.scope.text whole) b.structs.items
-all_declared Known a b none h whole known = subst (λ (ss : List Struct). All (IsDeclared a.scope.text whole) ss) (sym (h.kept ∙ ap (λ ss. ss ++ h.added) none)) (h.declared whole known)
+pub all_declared : (Known : Knows) (a b : Reader) → a.structs.items ≡ [] → Keeps Known a b → (whole : List Event) → Known a.scope.text whole
+    → All (IsDeclared a.scope.text (environment b.scope b.types) whole) b.structs.items
+all_declared Known a b none h whole known =
+    subst (λ (ss : List Struct). All (IsDeclared a.scope.text (environment b.scope b.types) whole) ss) (sym (h.kept ∙ ap (λ ss. ss ++ h.added) none)) (h.declared whole known)

@@ -1,14 +1,23 @@
--- The attributes of members that say sizes and alignments (WGSL, "Attributes").
-use Rattle.std.specs.Prelude.{◌≡◌, ◌≢◌, ℕ, List, [], ◌∷◌, Bool, true, false, ◌||◌, Option, Some, None, codes, drop, is_some}
+-- The attributes of members, variables, overrides and functions (WGSL, "Attributes").
+use Rattle.std.specs.Prelude.{◌≡◌, ◌≢◌, ℕ, List, [], ◌∷◌, Bool, true, false, Option, Some, None, codes, cond, drop, option_map, pos, take}
+use Rattle.std.specs.Option.{option_or}
+use denote.Enum.Bare.{sameb}
+use Rattle.wgsl_constants.specs.Conversions.{number}
+use Rattle.wgsl_constants.specs.Literals.{integer_of}
+use Rattle.wgsl_constants.specs.declared.integer.Integer.{Integer}
 use Rattle.wgsl_reader.specs.declared.mark.Mark.{Mark}
 use Rattle.wgsl_reader.specs.declared.mark.Mark.TheVariants as m
 use Rattle.wgsl_reader.specs.declared.read.Event.{Event}
+use Rattle.wgsl_reader.specs.declared.token.Token.{Token}
 use Rattle.wgsl_spelling.specs.Words.{word}
 use Rattle.wgsl_syntax.specs.Names.{named}
-use Rattle.wgsl_source.specs.Declarations.{attribute_len, token_before}
+use Rattle.wgsl_source.specs.Declarations.{attribute_len, token_before, without_last}
+use Rattle.wgsl_source.specs.contracts.attribute.Name.{the_type as name_type}
 use Rattle.wgsl_source.specs.declared.attribute.Attributes.{Attributes}
 use Rattle.wgsl_source.specs.declared.attribute.Name.{Name}
 use Rattle.wgsl_source.specs.declared.attribute.Name.TheVariants as name
+use Rattle.wgsl_source.specs.declared.entry.Stage.{Stage}
+use Rattle.wgsl_source.specs.declared.entry.Stage.TheVariants as stage
 use Rattle.wgsl_source.specs.declared.text.Text.{Text}
 
 -- the attributes by their names
@@ -19,66 +28,91 @@ attribute_names =
     (name.Id, codes "id") ∷ (name.Interpolate, codes "interpolate") ∷ (name.Invariant, codes "invariant") ∷ (name.Location, codes "location") ∷
     (name.MustUse, codes "must_use") ∷ (name.Size, codes "size") ∷ (name.Vertex, codes "vertex") ∷ (name.WorkgroupSize, codes "workgroup_size") ∷ []
 
--- what an attribute says: a size, an alignment, or neither
-pub data Sizing : Type 0 where
-  sizes aligns neither : Sizing
+-- an attribute: its name, if WGSL has it, and its argument, if that is one literal: `16` of `@size(16)`
+pub record Attribute : Type 0 where
+  pub name : Option Name
+  pub literal : Option (List ℕ)
 
-abbrev pub sizing_of : Name → Sizing
-sizing_of name.Size = sizes
-sizing_of name.Align = aligns
-sizing_of other = neither
+abbrev pub is_literal : Mark → Mark → Bool
+is_literal m.Literal m.Argument = true
+is_literal first end = false
 
-abbrev pub sizing_named : Option Name → Sizing
-sizing_named (Some n) = sizing_of n
-sizing_named None = neither
+-- the argument, if it is one literal
+abbrev pub literal_token : Text → List Event → Option Token
+literal_token t (event ∷ end ∷ []) = cond (is_literal event.mark end.mark) (Some (token_before t event.at)) None
+literal_token t events = None
+
+abbrev pub literal_in : Text → List Event → Option (List ℕ)
+literal_in t arguments = option_map (word t.text.now) (literal_token t arguments)
 
 -- `off` in `@diagnostic(off, a)`, which has no other name in front
 abbrev pub is_severity : Mark → Bool
 is_severity m.Severity = true
 is_severity other = false
 
-abbrev pub sizing_by : Bool → List ℕ → Sizing
-sizing_by true text = neither
-sizing_by false text = sizing_named (named attribute_names text)
+abbrev pub name_by : Bool → List ℕ → Option Name
+name_by true text = Some name.Diagnostic
+name_by false text = named attribute_names text
 
--- the attribute in front of these events
-abbrev pub attribute_in : Text → List Event → Sizing
-attribute_in t [] = neither
-attribute_in t (event ∷ events) = sizing_by (is_severity event.mark) (word t.text.now (token_before t event.at))
-
-abbrev pub SameSizes : Attributes → Attributes → Type 0
-SameSizes old new = (new.size ≡ old.size) × (new.align ≡ old.align)
-
--- what an attribute adds to those in front of it
-abbrev pub Adds : Sizing → Attributes → Attributes → Type 0
-Adds sizes old new = (is_some new.size ≡ true) × (new.align ≡ old.align)
-Adds aligns old new = (new.size ≡ old.size) × (is_some new.align ≡ true)
-Adds neither old new = SameSizes old new
+-- the attribute that these events say: `@size(16)`
+abbrev pub attribute_of : Text → List Event → Attribute
+attribute_of t [] = record { name = None; literal = None }
+attribute_of t (event ∷ events) = record { name = name_by (is_severity event.mark) (word t.text.now (token_before t event.at)); literal = literal_in t (without_last events) }
 
 -- the attributes in front, in order
-pub data InFront (t : Text) : List Event → List Sizing → Type 0 where
+pub data InFront (t : Text) : List Event → List Attribute → Type 0 where
   no_more : {events : List Event} → attribute_len events ≡ 0 → InFront t events []
-  one_more : {events : List Event} {others : List Sizing} → attribute_len events ≢ 0
-      → InFront t (drop (attribute_len events) events) others → InFront t events (attribute_in t events ∷ others)
+  one_more : {events : List Event} {others : List Attribute} → attribute_len events ≢ 0 → InFront t (drop (attribute_len events) events) others
+      → InFront t events (attribute_of t (take (attribute_len events) events) ∷ others)
 
-abbrev pub is_size : Sizing → Bool
-is_size sizes = true
-is_size other = false
+-- what the last attribute says that says it
+abbrev pub last_said : {A : Type 0} → (Attribute → Option A) → List Attribute → Option A
+last_said says [] = None
+last_said says (a ∷ ss) = option_or (last_said says ss) (says a)
 
-abbrev pub is_align : Sizing → Bool
-is_align aligns = true
-is_align other = false
+abbrev pub is_named : Name → Option Name → Bool
+is_named n (Some other) = sameb name_type n other
+is_named n None = false
 
-abbrev pub has : (Sizing → Bool) → List Sizing → Bool
-has test [] = false
-has test (s ∷ ss) = test s || has test ss
+-- the argument of an attribute with this name
+abbrev pub argument_if : Name → Attribute → Option (Option (List ℕ))
+argument_if n a = cond (is_named n a.name) (Some a.literal) None
 
--- A size is given exactly if an attribute `size` is there, and an alignment exactly if an `align` is.
-pub record AreGiven (t : Text) (events : List Event) (size align : Option ℕ) : Type 0 where
-  pub attributes : List Sizing
+-- `@vertex`
+abbrev pub stage_named : Option Name → Option Stage
+stage_named (Some name.Vertex) = Some stage.Vertex
+stage_named (Some name.Fragment) = Some stage.Fragment
+stage_named (Some name.Compute) = Some stage.Compute
+stage_named other = None
+
+abbrev pub stage_by : Attribute → Option Stage
+stage_by a = stage_named a.name
+
+-- an argument gives a number: a literal its value, `0x10u` 16. Which number another expression gives isn't said.
+abbrev pub IsValueOf : Option (List ℕ) → ℕ → Type 0
+IsValueOf (Some text) n = (i : Integer) × (integer_of text ≡ Some i) × (number i ≡ pos n)
+IsValueOf None n = Unit {0}
+
+-- a number is there exactly if an argument is
+abbrev pub IsNumberOf : Option (Option (List ℕ)) → Option ℕ → Type 0
+IsNumberOf (Some argument) (Some n) = IsValueOf argument n
+IsNumberOf None None = Unit {0}
+IsNumberOf other n = ⊥
+
+-- the number of the attribute with this name, if it is there
+abbrev pub IsSaid : Name → List Attribute → Option ℕ → Type 0
+IsSaid n attributes = IsNumberOf (last_said (argument_if n) attributes)
+
+-- what attributes say
+pub record Say (attributes : List Attribute) (a : Attributes) : Type 0 where
+  pub size : IsSaid name.Size attributes a.size
+  pub align : IsSaid name.Align attributes a.align
+  pub group : IsSaid name.Group attributes a.group
+  pub binding : IsSaid name.Binding attributes a.binding
+  pub id : IsSaid name.Id attributes a.id
+  pub stage_said : last_said stage_by attributes ≡ a.stage
+
+pub record AreRead (t : Text) (events : List Event) (a : Attributes) : Type 0 where
+  pub attributes : List Attribute
   pub there : InFront t events attributes
-  pub sized : is_some size ≡ has is_size attributes
-  pub aligned : is_some align ≡ has is_align attributes
-
-abbrev pub HasSizes : Text → List Event → Attributes → Type 0
-HasSizes t events attributes = AreGiven t events attributes.size attributes.align
+  pub say : Say attributes a

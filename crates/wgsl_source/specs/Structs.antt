@@ -5,7 +5,8 @@ use Rattle.wgsl_reader.specs.declared.read.Event.{Event}
 use Rattle.wgsl_source.specs.TextStructs.{IsDeclared}
 use Rattle.wgsl_source.specs.Layout.{IsLaidOut}
 use Rattle.wgsl_source.specs.Members.{AreMeasured, EndsRuntimeSized, Grows, IsTypeOf}
-use Rattle.wgsl_source.specs.internal.Read.{IsFrom}
+use Rattle.wgsl_source.specs.WrittenTypes.{environment}
+use Rattle.wgsl_source.specs.internal.Read.{IsFrom, Stays}
 use Rattle.wgsl_source.specs.declared.declaration.Declaration.{Declaration}
 use Rattle.wgsl_source.specs.declared.measured.MeasuredType.{MeasuredType}
 use Rattle.wgsl_source.specs.declared.module.Reader.{Reader}
@@ -45,4 +46,11 @@ pub record Keeps (Known : Text → List Event → Type 0) (old new : Reader) : T
   pub kept : new.structs.items ≡ old.structs.items ++ added
   pub laid_out : AreStructsOf new.types.elements.items added
   pub text : new.scope.text ≡ old.scope.text
-  pub declared : (whole : List Event) → Known old.scope.text whole → All (IsDeclared old.scope.text whole) added
+  pub names : Stays old.scope new.scope
+  pub declared : (whole : List Event) → Known old.scope.text whole → All (IsDeclared old.scope.text (environment new.scope new.types) whole) added
+
+-- the same behind the declarations' names
+pub record KeepsNamed (Known : Text → List Event → Type 0) (old new : Reader) : Type 0 where
+  pub named : Reader
+  pub same : SameStructs old named
+  pub keeps : Keeps Known named new

@@ -1,10 +1,20 @@
 -- The structs that a module's text declares, by the events of the grammar (WGSL, "Structure Types").
-use Rattle.std.specs.Prelude.{◌≡◌, ◌≢◌, ℕ, List, [], ◌∷◌, ◌++◌, Some, drop, slice_get, take}
+use Rattle.std.specs.Prelude.{◌≡◌, ◌≢◌, ℕ, List, [], ◌∷◌, ◌++◌, Option, Some, drop, slice_get, take}
+use Rattle.std.specs.List.{All}
 use Rattle.wgsl_reader.specs.declared.read.Event.{Event}
 use Rattle.wgsl_spelling.specs.Words.{word}
-use Rattle.wgsl_source.specs.Attributes.{AreGiven}
+use Rattle.wgsl_source.specs.Attributes.{Attribute, InFront, IsSaid}
 use Rattle.wgsl_source.specs.Declarations.{AreSites, BehindAttributes, IsNamed, Site, declaration_len, end_at, first_count, inner, len_to, token_before}
+use Rattle.wgsl_source.specs.TextDeclarations.{declared_by}
+use Rattle.wgsl_source.specs.declared.declaration.DeclarationKind.TheVariants as kinds
+use Rattle.wgsl_source.specs.WrittenTypes.{Environment, HasType}
+use Rattle.wgsl_source.specs.declared.attribute.Name.TheVariants as name
+use Rattle.wgsl_source.specs.declared.module.Module.{Module}
 use Rattle.wgsl_source.specs.declared.parts.End.TheVariants as e
+use Rattle.wgsl_source.specs.declared.measured.MeasuredType.{MeasuredType}
+use Rattle.wgsl_source.specs.declared.measured.TypeKind.TheVariants as kind
+use Rattle.wgsl_source.specs.declared.scope.Meaning.{Meaning}
+use Rattle.wgsl_source.specs.declared.scope.Meaning.TheVariants as meaning
 use Rattle.wgsl_source.specs.declared.structure.Member.{Member}
 use Rattle.wgsl_source.specs.declared.structure.Struct.{Struct}
 use Rattle.wgsl_source.specs.declared.text.Text.{Text}
@@ -12,16 +22,31 @@ use Rattle.wgsl_source.specs.declared.text.Text.{Text}
 -- a member: its name stands behind its attributes, and of these it has its size and its alignment, if they say any
 pub record IsMember (t : Text) (events : List Event) (member : Member) : Type 0 where
   pub rest : List Event
-  pub attributes : BehindAttributes events rest
+  pub behind : BehindAttributes events rest
   pub named : IsNamed t rest member.name.now member.place
-  pub given : AreGiven t events member.size_attribute member.align_attribute
+  pub attributes : List Attribute
+  pub there : InFront t events attributes
+  pub size : IsSaid name.Size attributes member.size_attribute
+  pub align : IsSaid name.Align attributes member.align_attribute
+
+-- a member has the type that is written behind its name
+pub record IsTyped (t : Text) (env : Environment) (events : List Event) (member : Member) : Type 0 where
+  pub rest : List Event
+  pub behind : BehindAttributes events rest
+  pub written : HasType t env (inner rest) member.ty
 
 -- the members of a struct, in order: each ends with a `Member`
-pub data AreMembers (t : Text) : List Event → List Member → Type 0 where
-  no_member : {events : List Event} → len_to e.Member events ≡ 0 → AreMembers t events []
+pub data AreMembersBy (Is : List Event → Member → Type 0) : List Event → List Member → Type 0 where
+  no_member : {events : List Event} → len_to e.Member events ≡ 0 → AreMembersBy Is events []
   one_member : {events : List Event} {member : Member} {members : List Member} → len_to e.Member events ≢ 0
-      → IsMember t (take (len_to e.Member events) events) member → AreMembers t (drop (len_to e.Member events) events) members
-      → AreMembers t events (member ∷ members)
+      → Is (take (len_to e.Member events) events) member → AreMembersBy Is (drop (len_to e.Member events) events) members
+      → AreMembersBy Is events (member ∷ members)
+
+abbrev pub AreMembers : Text → List Event → List Member → Type 0
+AreMembers t = AreMembersBy (IsMember t)
+
+abbrev pub AreTyped : Text → Environment → List Event → List Member → Type 0
+AreTyped t env = AreMembersBy (IsTyped t env)
 
 -- a struct that is declared there: its name stands behind `struct`, and its members are those up to its `Struct`
 pub record IsStructAt (t : Text) (first : List Event) (struct : Struct) : Type 0 where
@@ -29,12 +54,27 @@ pub record IsStructAt (t : Text) (first : List Event) (struct : Struct) : Type 0
   pub named : IsNamed t first struct.name.now struct.place
   pub members : AreMembers t (inner (take (declaration_len t first) first)) struct.members.items
 
--- A struct is one that the events of a module declare.
-pub record IsDeclared (t : Text) (whole : List Event) (struct : Struct) : Type 0 where
+-- A struct is one that the events of a module declare, and its members have the types that are written there.
+pub record IsDeclared (t : Text) (env : Environment) (whole : List Event) (struct : Struct) : Type 0 where
   pub front : List Event
   pub first : List Event
   pub there : whole ≡ front ++ first
   pub is : IsStructAt t first struct
+  pub types : AreTyped t env (inner (take (declaration_len t first) first)) struct.members.items
+
+-- a name is that of an alias, or of the struct that the type is: `alias Color = vec3f;`, `struct Light {..}`
+pub data IsTypeNamed (t : Text) (structs : List Struct) (sites : List Site) (name : List ℕ) (ty : MeasuredType) : Type 0 where
+  an_alias : (k : ℕ) (site : Site) → slice_get sites k ≡ Some site → declared_by (end_at t site.first) ≡ Some kinds.Alias → name ≡ word t.text.now (token_before t (first_count site.first))
+      → IsTypeNamed t structs sites name ty
+  a_struct : (index : ℕ) (struct : Struct) → ty.kind ≡ kind.Struct index → slice_get structs index ≡ Some struct → struct.name.now ≡ name → IsTypeNamed t structs sites name ty
+
+-- Each struct is declared there. The names of aliases and structs, and no others, stand for types of their own, each for one.
+pub record AreDeclared (t : Text) (whole : List Event) (m : Module) : Type 0 where
+  pub named : List ℕ → Option Meaning
+  pub sites : List Site
+  pub stand : AreSites t whole sites
+  pub types : (name : List ℕ) (ty : MeasuredType) → named name ≡ Some (meaning.«Type» ty) → IsTypeNamed t m.structs.items sites name ty
+  pub structs : All (IsDeclared t (record { named = named; elements = m.elements.items }) whole) m.structs.items
 
 -- Each struct that is declared there is one of these, at the next index, or is left out under its name. So are those that can't
 -- be read, under names that stand in the text.

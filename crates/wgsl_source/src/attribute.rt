@@ -1,19 +1,16 @@
 // Attributes, and where each may stand (WGSL, "Attributes").
 
-ghost use Rattle.std.specs.Prelude.{◌≡◌, IfOk, None, OnOk};
+ghost use Rattle.std.specs.Prelude.{◌≡◌, [], IfOk, OnOk, Some};
 ghost use Rattle.wgsl_syntax.specs.Names.{named};
-ghost use Rattle.wgsl_source.specs.Attributes.{Adds, HasSizes, SameSizes, attribute_in, attribute_names, is_severity, sizing_of};
+ghost use Rattle.wgsl_source.specs.Attributes.{AreRead, Say, attribute_names, attribute_of, is_severity, literal_in};
 ghost use Rattle.wgsl_source.specs.Declarations.{BehindAttributes};
+ghost use Rattle.wgsl_source.specs.internal.Others.{Adds, SameValues};
 
 use crate::directive::severity_fault;
 use crate::entry::{Stage, WorkgroupExtent};
 use crate::fault::{Cause, Stop};
-use crate::meant::is_built_in_value;
 use crate::parts::{split_argument, split_attribute, split_first, without_last};
 use crate::scope::Scope;
-use crate::value::{PlacedValue, Value};
-use wgsl_constants::call::integer;
-use wgsl_constants::integer::Integer;
 use wgsl_reader::mark::Mark;
 use wgsl_reader::read::Event;
 use wgsl_reader::token::Token;
@@ -132,8 +129,7 @@ impl Name {
 
 impl Attributes {
     fn none() -> Attributes
-        ensures size { result.size ≡ None }
-        ensures align { result.align ≡ None }
+        ensures { Say [] result }
     {
         Attributes {
             size: None,
@@ -149,7 +145,7 @@ impl Attributes {
 
     /// Notes an attribute. Returns whether it is a repetition; `diagnostic` may be repeated.
     fn is_twice(&mut self, name: Name) -> bool
-        ensures { SameSizes self.old self.new }
+        ensures { SameValues self.old self.new }
     {
         match self.is_there.get_mut(name as usize) {
             Some(is_there) if name != Name::Diagnostic => {
@@ -179,7 +175,7 @@ impl<'t> Scope<'t> {
         owner: Owner,
     ) -> Result<(Attributes, &'e [Event]), Stop>
         ensures behind { IfOk result (λ r. BehindAttributes events.now r.1.now) }
-        ensures sizes { IfOk result (λ r. HasSizes self.now.text events.now r.0) }
+        ensures read { IfOk result (λ r. AreRead self.now.text events.now r.0) }
     {
         let mut attributes = Attributes::none();
         let mut rest = events;
@@ -196,7 +192,7 @@ impl<'t> Scope<'t> {
         owner: Owner,
         attributes: &mut Attributes,
     ) -> Result<(), Stop>
-        ensures { OnOk result (Adds (attribute_in self.now.text events.now) attributes.old attributes.new) }
+        ensures { OnOk result (Adds (attribute_of self.now.text events.now) attributes.old attributes.new) }
     {
         let Some((first, rest)) = split_first(events) else {
             return Ok(());
@@ -228,7 +224,7 @@ impl<'t> Scope<'t> {
         owner: Owner,
         attributes: &mut Attributes,
     ) -> Result<(), Stop>
-        ensures { SameSizes attributes.old attributes.new }
+        ensures { SameValues attributes.old attributes.new }
     {
         let written = Written {
             name: self.text.token_before(first.at.saturating_sub(2)),
@@ -247,7 +243,7 @@ impl<'t> Scope<'t> {
         arguments: &[Event],
         attributes: &mut Attributes,
     ) -> Result<(), Stop>
-        ensures { OnOk result (Adds (sizing_of name) attributes.old attributes.new) }
+        ensures { OnOk result (Adds (record { name = Some name; literal = literal_in self.now.text arguments.now }) attributes.old attributes.new) }
     {
         match name {
             Name::Align => attributes.align = Some(self.read_align(arguments)?),
@@ -270,75 +266,6 @@ impl<'t> Scope<'t> {
             | Name::MustUse => {}
         }
         Ok(())
-    }
-
-    /// The value of an argument.
-    fn read_value(&self, arguments: &[Event]) -> Result<PlacedValue, Stop> {
-        match split_argument(arguments) {
-            Some(split) => self.value_noted(without_last(split.front)),
-            None => self.value_noted(arguments),
-        }
-    }
-
-    fn read_number(&self, arguments: &[Event]) -> Result<u32, Stop> {
-        let value = self.read_value(arguments)?;
-        match integer_of(value.value) {
-            Ok(integer) => match u32::try_from(integer.value()) {
-                Ok(number) => Ok(number),
-                Err(_) => Err(Stop::at(value.at, Cause::NegativeAttribute)),
-            },
-            Err(cause) => Err(Stop::at(value.at, cause)),
-        }
-    }
-
-    fn read_align(&self, arguments: &[Event]) -> Result<u32, Stop> {
-        let align = self.read_number(arguments)?;
-        if align.is_power_of_two() {
-            Ok(align)
-        } else {
-            let at = self.read_value(arguments)?.at;
-            Err(Stop::at(at, Cause::AlignNotPower))
-        }
-    }
-
-    /// Reads the name of a built-in value.
-    fn read_built_in(&self, arguments: &[Event]) -> Result<(), Stop> {
-        let Some((first, _)) = split_first(arguments) else {
-            return Ok(());
-        };
-        let token = self.text.token_before(first.at);
-        if self.extensions.foreign || is_built_in_value(self.text.word(token)) {
-            Ok(())
-        } else {
-            Err(Stop::at(token.at, Cause::UnknownBuiltInValue))
-        }
-    }
-
-    /// Reads the one to three extents of a workgroup; a missing one is 1.
-    fn read_workgroup_size(&self, arguments: &[Event]) -> Result<[WorkgroupExtent; 3], Stop> {
-        let mut extents = [WorkgroupExtent::Known(1); 3];
-        let mut rest = arguments;
-        for extent in &mut extents {
-            if let Some(split) = split_argument(rest) {
-                *extent = self.read_extent(split.front)?;
-                rest = split.rest;
-            }
-        }
-        Ok(extents)
-    }
-
-    fn read_extent(&self, argument: &[Event]) -> Result<WorkgroupExtent, Stop> {
-        let value = self.value_noted(without_last(argument))?;
-        if let Value::Later = value.value {
-            return Ok(WorkgroupExtent::Override);
-        }
-        match integer_of(value.value) {
-            Ok(integer) => match u32::try_from(integer.value()) {
-                Ok(number) if number > 0 => Ok(WorkgroupExtent::Known(number)),
-                _ => Err(Stop::at(value.at, Cause::EmptyWorkgroup)),
-            },
-            Err(cause) => Err(Stop::at(value.at, cause)),
-        }
     }
 }
 
@@ -365,7 +292,7 @@ impl Written<'_> {
 
 /// Notes that an attribute is there, if it may be.
 fn note(name: Name, written: Written, owner: Owner, attributes: &mut Attributes) -> Result<(), Stop>
-    ensures { SameSizes attributes.old attributes.new }
+    ensures { SameValues attributes.old attributes.new }
 {
     if !name.may_stand(owner) {
         Err(written.stop(Cause::MisplacedAttribute))
@@ -385,12 +312,4 @@ fn count_of(arguments: &[Event]) -> usize {
         rest = split.rest;
     }
     count
-}
-
-fn integer_of(value: Value) -> Result<Integer, Cause> {
-    match value {
-        Value::Known(constant) => Ok(integer(constant)?),
-        Value::Vector(_) => Err(Cause::NotInteger),
-        Value::Later => Err(Cause::KnownLater),
-    }
 }

@@ -2,7 +2,8 @@
 ghost use Rattle.std.specs.Prelude.{◌≡◌, ◌-◌, ◌∷◌, [], ◌<◌, IfOk, IfSome, List, MatchOption, OnOk, length};
 ghost use Rattle.wgsl_reader.specs.declared.read.Event.{Event as of_event};
 ghost use Rattle.wgsl_source.specs.Declarations.{end_by};
-ghost use Rattle.wgsl_source.specs.internal.Read.{Adds, AreAll, IsMisread, IsNext, IsNone, declared_by};
+ghost use Rattle.wgsl_source.specs.TextDeclarations.{declared_by};
+ghost use Rattle.wgsl_source.specs.internal.Read.{Adds, AreAll, IsMisread, IsNext, IsNone};
 
 use crate::directive::read_directive;
 use crate::extension::enabled;

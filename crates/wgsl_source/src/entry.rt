@@ -1,5 +1,8 @@
 // Entry points and overrides: what a pipeline is created from.
+ghost use Rattle.std.specs.Prelude.{IfOk};
 ghost use Rattle.wgsl_source.specs.Members.{Grows};
+ghost use Rattle.wgsl_source.specs.TextDeclarations.{of_entry_points, of_overrides};
+ghost use Rattle.wgsl_source.specs.internal.Others.{IsReadOf};
 
 use crate::attribute::Owner;
 use crate::declaration::Declaration;
@@ -72,16 +75,19 @@ impl<'t> Scope<'t> {
     pub fn read_function(
         &self,
         declaration: &Declaration<'t>,
-    ) -> Result<Option<EntryPoint<'t>>, Stop> {
+    ) -> Result<Option<EntryPoint<'t>>, Stop>
+        ensures { IfOk result (IsReadOf (of_entry_points self.now.text) declaration.now) }
+    {
         let (attributes, _) = self.read_attributes(declaration.attributes, Owner::Function)?;
-        Ok(
-            attributes.stage.map(|stage| EntryPoint {
+        match attributes.stage {
+            Some(stage) => Ok(Some(EntryPoint {
                 name: declaration.name,
                 place: declaration.place,
                 stage,
                 workgroup_size: attributes.workgroup_size,
-            }),
-        )
+            })),
+            None => Ok(None),
+        }
     }
 
     /// The override that a declaration declares.
@@ -89,8 +95,9 @@ impl<'t> Scope<'t> {
         &self,
         types: &mut Types,
         declaration: &Declaration<'t>,
-    ) -> Result<Override<'t>, Stop>
-        ensures { Grows types.old types.new }
+    ) -> Result<Option<Override<'t>>, Stop>
+        ensures grows { Grows types.old types.new }
+        ensures read { IfOk result (IsReadOf (of_overrides self.now.text) declaration.now) }
     {
         let (attributes, _) = self.read_attributes(declaration.attributes, Owner::Override)?;
         let Initialized { ty, value, .. } = self.initialized(declaration);
@@ -99,13 +106,13 @@ impl<'t> Scope<'t> {
             [] => self.default_type(value)?,
             _ => Some(self.read_scalar(types, ty)?),
         };
-        Ok(Override {
+        Ok(Some(Override {
             name: declaration.name,
             place: declaration.place,
             id: attributes.id,
             ty,
             has_default: !value.is_empty(),
-        })
+        }))
     }
 
     fn read_scalar(&self, types: &mut Types, noted: &[Event]) -> Result<Scalar, Stop>

@@ -1,7 +1,8 @@
-//! The declarations of a WGSL module, read from its text: structs with their layouts, variables, overrides and entry points,
-//! and what is wrong.
+//! The declarations of a WGSL module, read from its text: structs with their layouts, variables, overrides, entry points
+//! and aliases, and what is wrong.
 #![tactic(auto)]
 
+mod argument;
 mod attribute;
 mod call;
 mod check;
@@ -14,14 +15,14 @@ mod initialized;
 mod item;
 pub mod laws;
 mod leaf;
-pub mod listed;
+mod listed;
 mod literal;
 pub mod meant;
 pub mod measured;
 pub mod module;
 mod noted;
 mod order;
-mod others;
+pub mod others;
 mod parts;
 mod scope;
 pub mod structure;

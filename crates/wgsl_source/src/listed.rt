@@ -1,4 +1,4 @@
-// The structs and aliases of a module in the order of the text.
+// The structs of a module in the order of the text.
 ghost use Rattle.std.specs.Prelude.{◌≡◌, IfSome, List, OnOk, ◌∷◌, []};
 ghost use Rattle.wgsl_source.specs.internal.Read.{IsMeant, IsReadAs, Lists};
 ghost use Rattle.wgsl_source.specs.declared.declaration.Declaration.{Declaration as of_declaration};
@@ -6,23 +6,15 @@ ghost use Rattle.wgsl_source.specs.declared.structure.Struct.{Struct as of_struc
 ghost use Rattle.wgsl_source.specs.declared.text.Text.{Text as of_text};
 
 use crate::declaration::{Declaration, DeclarationKind};
-use crate::measured::{MeasuredType, TypeKind};
+use crate::measured::TypeKind;
 use crate::scope::Meaning;
 use std::alloc::{AllocError, Global};
 
-/// An alias, with the type that it stands for.
-#[derive(Clone, Copy)]
-pub struct Alias<'t> {
-    pub name: &'t str,
-    pub ty: MeasuredType,
-}
-
-/// The structs and aliases of a module in the order of the text.
+/// The structs of a module in the order of the text.
 #[derive(Drop)]
 pub struct Listed<'t> {
     /// The indices of the structs.
     pub in_text: Vec<usize>,
-    pub aliases: Vec<Alias<'t>>,
     /// The structs that have a fault, or need a declaration that has one.
     pub left_out: Vec<&'t str>,
 }
@@ -35,12 +27,11 @@ impl<'t> Listed<'t> {
     {
         Listed {
             in_text: Vec::new(alloc),
-            aliases: Vec::new(alloc),
             left_out: Vec::new(alloc),
         }
     }
 
-    /// Lists what a declaration declares, if it is an alias or a struct.
+    /// Lists what a declaration declares, if it is a struct.
     pub fn list(
         &mut self,
         declaration: &Declaration<'t>,
@@ -51,7 +42,6 @@ impl<'t> Listed<'t> {
     {
         match declaration.kind {
             DeclarationKind::Struct => self.list_struct(declaration, meaning),
-            DeclarationKind::Alias => self.list_alias(declaration.name, meaning),
             _ => Ok(()),
         }
     }
@@ -68,16 +58,6 @@ impl<'t> Listed<'t> {
         match index_of(meaning) {
             Some(index) => Ok(self.in_text.push(index)?),
             None => Ok(self.left_out.push(declaration.name)?),
-        }
-    }
-
-    fn list_alias(&mut self, name: &'t str, meaning: Meaning) -> Result<(), AllocError>
-        ensures in_text { self.new.in_text ≡ self.old.in_text }
-        ensures left_out { self.new.left_out ≡ self.old.left_out }
-    {
-        match meaning {
-            Meaning::Type(ty) => Ok(self.aliases.push(Alias { name, ty })?),
-            _ => Ok(()),
         }
     }
 }

@@ -6,6 +6,7 @@ ghost use Rattle.wgsl_rules.specs.layout.Layout.{HasAlignmentBy, IsArraySize, Is
 ghost use Rattle.wgsl_core.specs.Placing.{IsValue};
 ghost use Rattle.wgsl_source.specs.Measures.{IsMeasure, IsMeasureOf, IsStrideOf, known_count};
 ghost use Rattle.wgsl_source.specs.Members.{IsRuntimeSizedArray};
+ghost use Rattle.wgsl_source.specs.WrittenTypes.{IsResource};
 
 use wgsl_syntax::address::{AccessMode, AddressSpace};
 use wgsl_syntax::attribute::AccelerationStructureFlags;
@@ -81,13 +82,16 @@ impl MeasuredType {
     }
 
     /// A type that is no data: a texture, a sampler, a ray query or an acceleration structure.
-    pub fn resource(kind: TypeKind) -> MeasuredType {
+    pub fn resource(kind: TypeKind) -> MeasuredType
+        ensures { IsResource kind result }
+    {
         MeasuredType::leaf(kind, None, None)
     }
 
     /// A scalar.
     pub fn scalar(scalar: Scalar) -> MeasuredType
-        ensures { IsMeasureOf (scalar_type scalar) result }
+        ensures kind { result.kind ≡ TypeKind.Scalar scalar }
+        ensures measure { IsMeasureOf (scalar_type scalar) result }
     {
         let size = scalar_size(scalar);
         MeasuredType::leaf(TypeKind::Scalar(scalar), size, size)
@@ -95,7 +99,8 @@ impl MeasuredType {
 
     /// A vector of this many scalars.
     pub fn vector(count: u8, scalar: Scalar) -> MeasuredType
-        ensures { IsMeasureOf (vec count (scalar_type scalar)) result }
+        ensures kind { result.kind ≡ TypeKind.Vector count scalar }
+        ensures measure { IsMeasureOf (vec count (scalar_type scalar)) result }
     {
         let size = times(u32::from(count), scalar_size(scalar));
         MeasuredType::leaf(
@@ -107,7 +112,8 @@ impl MeasuredType {
 
     /// A matrix with these numbers of columns and rows.
     pub fn matrix(columns: u8, rows: u8, scalar: Scalar) -> MeasuredType
-        ensures { IsMeasureOf (mat columns rows (scalar_type scalar)) result }
+        ensures kind { result.kind ≡ TypeKind.Matrix columns rows scalar }
+        ensures measure { IsMeasureOf (mat columns rows (scalar_type scalar)) result }
     {
         let align = vector_align(rows, scalar);
         let size = times(u32::from(columns), align);

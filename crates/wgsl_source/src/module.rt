@@ -1,22 +1,21 @@
 // Modules: what they declare, and what is wrong with them.
-ghost use Rattle.std.specs.Prelude.{◌≡◌, ◌≢◌, ◌∷◌, [], IfOk, List, OnOk, Some, map, slice_get};
-ghost use Rattle.std.specs.List.{All};
-ghost use Rattle.wgsl_source.specs.TextStructs.{AreAllTold, IsDeclared};
-ghost use Rattle.wgsl_source.specs.TextVariables.{AreVariables};
+ghost use Rattle.std.specs.Prelude.{◌≡◌, ◌≢◌, ◌∷◌, [], IfOk, IsTrue, List, OnOk, Some, map, slice_get};
+ghost use Rattle.wgsl_source.specs.TextDeclarations.{HasDeclared};
+ghost use Rattle.wgsl_source.specs.TextStructs.{AreAllTold, AreDeclared};
 ghost use Rattle.wgsl_source.specs.internal.Others.{AddsOthers};
-ghost use Rattle.wgsl_source.specs.internal.Read.{AreAllMeant, AreListed, IsMeant, Known, KnownAll, KnownAt, KnownStruct, Means, Nothing, names_of};
-ghost use Rattle.wgsl_source.specs.Structs.{AreStructsOf, IsKept, Keeps, SameStructs};
+ghost use Rattle.wgsl_source.specs.internal.Read.{AreAllMeant, AreListed, AreNamed, IsMeant, IsOfSort, Known, KnownAll, KnownAt, KnownStruct, Means, Nothing, Stays, names_of};
+ghost use Rattle.wgsl_source.specs.Structs.{AreStructsOf, IsKept, Keeps, KeepsNamed, SameStructs};
 ghost use Rattle.wgsl_source.specs.declared.declaration.Declaration.{Declaration as of_declaration};
 
 use crate::declaration::{Declaration, DeclarationKind, Declarations, read_declarations};
 use crate::entry::{EntryPoint, Override};
 use crate::fault::{Cause, Fault, Stop};
 use crate::initialized::Initialized;
-use crate::listed::{Alias, Listed};
+use crate::listed::Listed;
 use crate::meant::Declared;
 use crate::measured::MeasuredType;
 use crate::order::{Circular, Order, order_of};
-use crate::others::Others;
+use crate::others::{Alias, Others};
 use crate::scope::{Meaning, Scope};
 use crate::structure::Struct;
 use crate::telling::{sort, tell};
@@ -94,9 +93,9 @@ pub fn read_module<'t>(
     grammar: &'t Grammar,
 ) -> Result<Module<'t>, AllocError>
     ensures structs { IfOk result (λ m. AreStructsOf m.elements.items m.structs.items) }
-    ensures declared { IfOk result (λ m. All (IsDeclared text.entry grammar.now.events.items) m.structs.items) }
+    ensures declared { IfOk result (AreDeclared text.entry grammar.now.events.items) }
     ensures told { IfOk result (λ m. AreAllTold text.entry grammar.now.events.items m.structs.items m.in_text.items (map (λ name. name.now) m.left_out.items)) }
-    ensures variables { IfOk result (λ m. AreVariables text.entry grammar.now.events.items m.faults.items m.variables.items) }
+    ensures others { IfOk result (HasDeclared text.entry grammar.now.events.items) }
 {
     let Declarations {
         declarations,
@@ -127,8 +126,10 @@ impl<'t> Reader<'t> {
         declarations: &[Declaration<'t>],
         others: &mut Others<'t>,
     ) -> Result<Listed<'t>, AllocError>
-        ensures keeps { OnOk result (Keeps (KnownAll declarations.now) self.old self.new) }
+        ensures keeps { OnOk result (KeepsNamed (KnownAll declarations.now) self.old self.new) }
         ensures others { OnOk result (AddsOthers self.new.scope.text (self.new.faults.items ≢ []) declarations.now others.old others.new) }
+        ensures named { AreNamed declarations.now self.old.scope → OnOk result (AreNamed declarations.now self.new.scope) }
+        ensures meant { OnOk result (AreAllMeant declarations.now self.new) }
         ensures listed { IfOk result (λ l. AreListed self.new.scope.text self.new.structs.items declarations.now l.in_text.items (names_of l)) }
     {
         if has_byte_order_mark(self.scope.text.text.as_bytes()) {
@@ -142,11 +143,14 @@ impl<'t> Reader<'t> {
         self.read_others(declarations, others)?;
         sort(&mut self.faults);
         self.types.naga_only.sort_unstable_by_key(|fault| fault.at);
-        self.list_types(declarations)
+        self.list_structs(declarations)
     }
 
     fn finished(self, listed: Listed<'t>, others: Others<'t>) -> Module<'t>
         ensures variables { result.variables ≡ others.entry.variables }
+        ensures overrides { result.overrides ≡ others.entry.overrides }
+        ensures entry_points { result.entry_points ≡ others.entry.entry_points }
+        ensures aliases { result.aliases ≡ others.entry.aliases }
         ensures faults { result.faults ≡ self.entry.faults }
         ensures elements { result.elements ≡ self.entry.types.elements }
         ensures structs { result.structs ≡ self.entry.structs }
@@ -165,12 +169,9 @@ impl<'t> Reader<'t> {
             variables,
             overrides,
             entry_points,
-        } = others;
-        let Listed {
-            in_text,
             aliases,
-            left_out,
-        } = listed;
+        } = others;
+        let Listed { in_text, left_out } = listed;
         let Types {
             elements,
             naga_only,
@@ -193,6 +194,7 @@ impl<'t> Reader<'t> {
 
     /// Gives the declarations their names. If two have one name, the first keeps it.
     fn name_all(&mut self, declarations: &[Declaration<'t>]) -> Result<(), AllocError>
+        ensures named { AreNamed declarations.now self.old.scope → OnOk result (AreNamed declarations.now self.new.scope) }
         ensures same { OnOk result (SameStructs self.old self.new) }
         ensures meant { OnOk result (AreAllMeant declarations.now self.new) }
     {
@@ -205,6 +207,8 @@ impl<'t> Reader<'t> {
     }
 
     fn name(&mut self, index: usize, declaration: &Declaration<'t>) -> Result<(), AllocError>
+        ensures named { (ds : List of_declaration) → slice_get ds index ≡ Some declaration.now → AreNamed ds self.old.scope
+            → OnOk result (AreNamed ds self.new.scope) }
         ensures same { SameStructs self.old self.new }
         ensures means { (ds : List of_declaration) → Means ds self.old self.new }
     {
@@ -223,7 +227,9 @@ impl<'t> Reader<'t> {
     }
 
     fn mean(&mut self, index: usize, meaning: Meaning)
+        ensures kept { self.new.scope.names ≡ self.old.scope.names }
         ensures same { SameStructs self.old self.new }
+        ensures names { slice_get self.old.scope.meanings.items index ≡ Some Meaning.Unread → Stays self.old.scope self.new.scope }
         ensures means { (ds : List of_declaration) → ((d : of_declaration) → slice_get ds index ≡ Some d
             → IsMeant self.old.scope.text self.old.structs.items d meaning) → Means ds self.old self.new }
     {
@@ -232,7 +238,9 @@ impl<'t> Reader<'t> {
         }
     }
 
-    fn is_unread(&self, index: usize) -> bool {
+    fn is_unread(&self, index: usize) -> bool
+        ensures { IsTrue result → slice_get self.now.scope.meanings.items index ≡ Some Meaning.Unread }
+    {
         matches!(self.scope.meanings.get(index), Some(Meaning::Unread))
     }
 
@@ -270,6 +278,7 @@ impl<'t> Reader<'t> {
     /// Refuses a declaration that contains itself.
     fn refuse(&mut self, circular: Circular) -> Result<(), AllocError>
         ensures same { SameStructs self.old self.new }
+        ensures names { Stays self.old.scope self.new.scope }
         ensures means { (ds : List of_declaration) → Means ds self.old self.new }
     {
         if !self.is_unread(circular.index) {
@@ -279,8 +288,8 @@ impl<'t> Reader<'t> {
         Ok(self.faults.push(circular.fault)?)
     }
 
-    /// Lists aliases and structs, and the structs that are left out, in the order of the text.
-    fn list_types(&self, declarations: &[Declaration<'t>]) -> Result<Listed<'t>, AllocError>
+    /// Lists the structs, and those that are left out, in the order of the text.
+    fn list_structs(&self, declarations: &[Declaration<'t>]) -> Result<Listed<'t>, AllocError>
         ensures { AreAllMeant declarations.now self.now → IfOk result
             (λ l. AreListed self.now.scope.text self.now.structs.items declarations.now l.in_text.items (names_of l)) }
     {
@@ -291,7 +300,7 @@ impl<'t> Reader<'t> {
         Ok(listed)
     }
 
-    /// Reads variables, overrides and functions in the order of the text.
+    /// Reads variables, overrides, functions and aliases in the order of the text.
     fn read_others(
         &mut self,
         declarations: &[Declaration<'t>],
@@ -301,14 +310,15 @@ impl<'t> Reader<'t> {
         ensures scope { OnOk result (self.new.scope ≡ self.old.scope) }
         ensures others { OnOk result (AddsOthers self.old.scope.text (self.new.faults.items ≢ []) declarations.now others.old others.new) }
     {
-        for declaration in declarations {
-            self.read_other(declaration, others)?;
+        for index in 0..declarations.len() {
+            self.read_other(index, &declarations[index], others)?;
         }
         Ok(())
     }
 
     fn read_other(
         &mut self,
+        index: usize,
         declaration: &Declaration<'t>,
         others: &mut Others<'t>,
     ) -> Result<(), AllocError>
@@ -320,7 +330,7 @@ impl<'t> Reader<'t> {
         if declaration.is_faulty {
             return Ok(());
         }
-        let read = others.read(&self.scope, &mut self.types, declaration);
+        let read = others.read(&self.scope, &mut self.types, index, declaration);
         tell(&mut self.faults, read)
     }
 
@@ -351,6 +361,7 @@ impl<'t> Reader<'t> {
     fn read_meaning(&mut self, declaration: &Declaration<'t>) -> Result<Meaning, Stop>
         ensures keeps { Keeps (KnownStruct declaration.now) self.old self.new }
         ensures scope { self.new.scope ≡ self.old.scope }
+        ensures sort { IfOk result (IsOfSort declaration.now) }
         ensures kept { declaration.now.kind ≡ DeclarationKind.Struct
             → IfOk result (IsKept self.old.scope.text declaration.now self.old.structs.items self.new.structs.items) }
     {
@@ -364,6 +375,7 @@ impl<'t> Reader<'t> {
     }
 
     fn read_alias(&mut self, declaration: &Declaration<'t>) -> Result<Meaning, Stop>
+        ensures sort { declaration.now.kind ≡ DeclarationKind.Alias → IfOk result (IsOfSort declaration.now) }
         ensures keeps { Keeps (KnownStruct declaration.now) self.old self.new }
         ensures scope { self.new.scope ≡ self.old.scope }
     {
@@ -372,6 +384,7 @@ impl<'t> Reader<'t> {
     }
 
     fn read_struct(&mut self, declaration: &Declaration<'t>) -> Result<Meaning, Stop>
+        ensures sort { declaration.now.kind ≡ DeclarationKind.Struct → IfOk result (IsOfSort declaration.now) }
         ensures keeps { Keeps (KnownAt declaration.now) self.old self.new }
         ensures scope { self.new.scope ≡ self.old.scope }
         ensures kept { IfOk result (IsKept self.old.scope.text declaration.now self.old.structs.items self.new.structs.items) }
@@ -384,6 +397,7 @@ impl<'t> Reader<'t> {
 
     #[tactic(auto, using(crate::proofs::Structs::keeps_grown))]
     fn read_constant(&mut self, declaration: &Declaration<'t>) -> Result<Meaning, Stop>
+        ensures sort { IfOk result (IsOfSort declaration.now) }
         ensures keeps { Keeps (KnownStruct declaration.now) self.old self.new }
         ensures scope { self.new.scope ≡ self.old.scope }
     {

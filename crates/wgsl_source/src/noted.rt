@@ -1,9 +1,11 @@
 // What the events of a type or a value say.
-ghost use Rattle.std.specs.Prelude.{◌≡◌, IfOk, None, OnOk, false};
+ghost use Rattle.std.specs.Prelude.{◌≡◌, ◌++◌, [], ◌∷◌, IfOk, None, OnOk, Some, false};
 ghost use Rattle.wgsl_spelling.specs.Words.{word};
 ghost use Rattle.wgsl_source.specs.Declarations.{first_count, token_before};
 ghost use Rattle.wgsl_source.specs.Members.{Grows};
+ghost use Rattle.wgsl_source.specs.WrittenTypes.{HasType, environment};
 ghost use Rattle.wgsl_source.specs.declared.item.Content.TheVariants.{Name};
+ghost use Rattle.wgsl_source.specs.internal.Others.{IsArgument};
 ghost use Rattle.wgsl_source.specs.internal.Items.{behind_event, behind_events, is_name, item_names, with_last};
 
 use crate::fault::{Cause, Expected, Named, Stop};
@@ -22,7 +24,8 @@ use wgsl_reader::token::Token;
 impl<'t> Scope<'t> {
     /// The type that events say.
     pub fn type_noted(&self, types: &mut Types, events: &[Event]) -> Result<MeasuredType, Stop>
-        ensures { Grows types.old types.new }
+        ensures grows { Grows types.old types.new }
+        ensures written { IfOk result (HasType self.now.text (environment self.now types.new) events.now) }
     {
         let mut items = Vec::new(self.alloc);
         self.read_all(types, &mut items, events)?;
@@ -116,7 +119,9 @@ impl<'t> Scope<'t> {
     }
 
     /// Takes the last item.
-    fn pop(&self, items: &mut Vec<Item>) -> Result<Item, Stop> {
+    fn pop(&self, items: &mut Vec<Item>) -> Result<Item, Stop>
+        ensures { IfOk result (λ item. items.old.items ≡ items.new.items ++ item ∷ []) }
+    {
         match items.pop() {
             Some(item) => Ok(item),
             None => Err(Stop::at(self.text.text.len(), Cause::NotInteger)),
@@ -210,7 +215,10 @@ impl<'t> Scope<'t> {
         }
     }
 
-    fn literal(&self, token: Token) -> Result<Value, Stop> {
+    /// The value of a literal.
+    pub fn literal(&self, token: Token) -> Result<Value, Stop>
+        ensures { IfOk result (IsArgument (Some (word self.now.text.text.now token))) }
+    {
         let value = match token.kind {
             Kind::True => Ok(Constant::Bool(true)),
             Kind::False => Ok(Constant::Bool(false)),

@@ -1,102 +1,101 @@
-// The variables, overrides and entry points of a module in the order of the text.
-ghost use Rattle.std.specs.Prelude.{◌≡◌, ◌∷◌, [], OnErr, OnOk, false};
+// The variables, overrides, entry points and aliases of a module in the order of the text.
+ghost use Rattle.std.specs.Prelude.{◌≡◌, [], IfOk, OnErr, OnOk, false};
 ghost use Rattle.wgsl_source.specs.Members.{Grows};
-ghost use Rattle.wgsl_source.specs.internal.Others.{AddsOthers};
+ghost use Rattle.wgsl_source.specs.TextDeclarations.{of_aliases};
+ghost use Rattle.wgsl_source.specs.internal.Others.{AddsOthers, IsAdded, IsReadOf, if_read};
 
 use crate::declaration::{Declaration, DeclarationKind};
 use crate::entry::{EntryPoint, Override};
 use crate::fault::Stop;
-use crate::scope::Scope;
+use crate::measured::MeasuredType;
+use crate::scope::{Meaning, Scope};
 use crate::types::Types;
 use crate::variable::Variable;
 use std::alloc::Global;
 
-/// The variables, overrides and entry points of a module in the order of the text.
+/// An alias, with the type that it stands for.
+#[derive(Clone, Copy)]
+pub struct Alias<'t> {
+    pub name: &'t str,
+    pub ty: MeasuredType,
+}
+
+/// The variables, overrides, entry points and aliases of a module in the order of the text.
 #[derive(Drop)]
 pub struct Others<'t> {
     pub variables: Vec<Variable<'t>>,
     pub overrides: Vec<Override<'t>>,
     pub entry_points: Vec<EntryPoint<'t>>,
+    pub aliases: Vec<Alias<'t>>,
 }
 
 impl<'t> Others<'t> {
     /// None of them.
     pub fn none(alloc: Global) -> Others<'t>
-        ensures { result.variables.items ≡ [] }
+        ensures variables { result.variables.items ≡ [] }
+        ensures overrides { result.overrides.items ≡ [] }
+        ensures entry_points { result.entry_points.items ≡ [] }
+        ensures aliases { result.aliases.items ≡ [] }
     {
         Others {
             variables: Vec::new(alloc),
             overrides: Vec::new(alloc),
             entry_points: Vec::new(alloc),
+            aliases: Vec::new(alloc),
         }
     }
 
-    /// Reads what a declaration declares, if it is a variable, an override or a function.
+    /// Reads what a declaration declares, which has this index, if it is a variable, an override, a function or an alias.
     pub fn read(
         &mut self,
         scope: &Scope<'t>,
         types: &mut Types,
+        index: usize,
         declaration: &Declaration<'t>,
     ) -> Result<(), Stop>
         ensures grows { Grows types.old types.new }
         ensures read { declaration.now.is_faulty ≡ false
-            → OnOk result (AddsOthers scope.now.text ⊥ (declaration.now ∷ []) self.old self.new) }
-        ensures stopped { OnErr result (AddsOthers scope.now.text ⊥ [] self.old self.new) }
+            → AddsOthers scope.now.text ⊥ (if_read result declaration.now) self.old self.new }
     {
         match declaration.kind {
-            DeclarationKind::Variable => self.read_variable(scope, types, declaration),
-            DeclarationKind::Override => self.read_override(scope, types, declaration),
-            DeclarationKind::Function => self.read_function(scope, declaration),
+            DeclarationKind::Variable => {
+                keep(&mut self.variables, scope.read_variable(types, declaration))
+            }
+            DeclarationKind::Override => {
+                keep(&mut self.overrides, scope.read_override(types, declaration))
+            }
+            DeclarationKind::Function => {
+                keep(&mut self.entry_points, scope.read_function(declaration))
+            }
+            DeclarationKind::Alias => keep(&mut self.aliases, scope.alias(index, declaration)),
             _ => Ok(()),
         }
     }
+}
 
-    fn read_variable(
-        &mut self,
-        scope: &Scope<'t>,
-        types: &mut Types,
-        declaration: &Declaration<'t>,
-    ) -> Result<(), Stop>
-        ensures grows { Grows types.old types.new }
-        ensures read { declaration.now.is_faulty ≡ false → declaration.now.kind ≡ DeclarationKind.Variable
-            → OnOk result (AddsOthers scope.now.text ⊥ (declaration.now ∷ []) self.old self.new) }
-        ensures stopped { OnErr result (AddsOthers scope.now.text ⊥ [] self.old self.new) }
+impl<'t> Scope<'t> {
+    /// The alias that a declaration declares, which has this index.
+    fn alias(&self, index: usize, declaration: &Declaration<'t>) -> Result<Option<Alias<'t>>, Stop>
+        ensures { IfOk result (IsReadOf (of_aliases self.now.text) declaration.now) }
     {
-        let read = scope.read_variable(types, declaration)?;
-        match read {
-            Some(variable) => Ok(self.variables.push(variable)?),
-            None => Ok(()),
+        match self.meanings.get(index) {
+            Some(Meaning::Type(ty)) => Ok(Some(Alias {
+                name: declaration.name,
+                ty: *ty,
+            })),
+            _ => Err(Stop::Elsewhere(declaration.place)),
         }
     }
+}
 
-    fn read_override(
-        &mut self,
-        scope: &Scope<'t>,
-        types: &mut Types,
-        declaration: &Declaration<'t>,
-    ) -> Result<(), Stop>
-        ensures grows { Grows types.old types.new }
-        ensures read { declaration.now.is_faulty ≡ false → declaration.now.kind ≡ DeclarationKind.Override
-            → OnOk result (AddsOthers scope.now.text ⊥ (declaration.now ∷ []) self.old self.new) }
-        ensures stopped { OnErr result (AddsOthers scope.now.text ⊥ [] self.old self.new) }
-    {
-        let read = scope.read_override(types, declaration)?;
-        Ok(self.overrides.push(read)?)
-    }
-
-    fn read_function(
-        &mut self,
-        scope: &Scope<'t>,
-        declaration: &Declaration<'t>,
-    ) -> Result<(), Stop>
-        ensures read { declaration.now.is_faulty ≡ false → declaration.now.kind ≡ DeclarationKind.Function
-            → OnOk result (AddsOthers scope.now.text ⊥ (declaration.now ∷ []) self.old self.new) }
-        ensures stopped { OnErr result (AddsOthers scope.now.text ⊥ [] self.old self.new) }
-    {
-        let read = scope.read_function(declaration)?;
-        match read {
-            Some(entry_point) => Ok(self.entry_points.push(entry_point)?),
-            None => Ok(()),
-        }
+/// Adds what is read of a declaration, if anything is.
+fn keep<T: Drop>(list: &mut Vec<T>, read: Result<Option<T>, Stop>) -> Result<(), Stop>
+    ensures added { OnOk result (IsAdded read list.old.items list.new.items) }
+    ensures same { OnErr result (list.new.items ≡ list.old.items) }
+{
+    match read {
+        Ok(Some(one)) => Ok(list.push(one)?),
+        Ok(None) => Ok(()),
+        Err(stop) => Err(stop),
     }
 }

@@ -1,5 +1,6 @@
 // What the names of a module stand for.
-ghost use Rattle.std.specs.Prelude.{◌≡◌};
+ghost use Rattle.std.specs.Prelude.{◌≡◌, ℕ, List, None};
+ghost use Rattle.wgsl_source.specs.WrittenTypes.{index_of, meaning_of};
 
 use crate::fault::Fault;
 use crate::measured::MeasuredType;
@@ -62,7 +63,8 @@ pub struct Scope<'t> {
 impl<'t> Scope<'t> {
     /// A scope without declarations.
     pub fn new(alloc: Global, text: Text<'t>, extensions: Extensions) -> Scope<'t>
-        ensures { result.text ≡ text.entry }
+        ensures text { result.text ≡ text.entry }
+        ensures none { (name : List ℕ) → index_of result name ≡ None }
     {
         Scope {
             alloc,
@@ -74,7 +76,9 @@ impl<'t> Scope<'t> {
     }
 
     /// What the module's declaration with this name stands for.
-    pub fn meaning(&self, name: &'t str) -> Option<Meaning> {
+    pub fn meaning(&self, name: &'t str) -> Option<Meaning>
+        ensures { result ≡ meaning_of self.now name.now }
+    {
         let index = self.names.get(&name)?;
         self.meanings.get(*index).copied()
     }

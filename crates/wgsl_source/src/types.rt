@@ -3,7 +3,10 @@ ghost use Rattle.std.specs.Prelude.{◌≡◌, IfOk, Some, false, slice_get};
 ghost use Rattle.wgsl_rules.specs.layout.Layout.{IsExactly};
 ghost use Rattle.wgsl_source.specs.Measures.{IsArrayAmong};
 ghost use Rattle.wgsl_source.specs.Members.{Grows, IsLeastSize};
+ghost use Rattle.wgsl_source.specs.WrittenTypes.{IsLeaf, StandsFor, meaning_of};
 ghost use Rattle.wgsl_source.specs.internal.Items.{NamesSpace, is_name};
+ghost use Rattle.wgsl_spelling.specs.Predeclared.{predeclared as predeclared_by};
+ghost use Rattle.wgsl_spelling.specs.Words.{word};
 
 use crate::check::element_fault;
 use crate::fault::{Cause, Expected, Fault, Named, Stop};
@@ -71,7 +74,9 @@ impl Types {
 impl<'t> Scope<'t> {
     /// The type that an item stands for.
     pub fn type_of(&self, types: &mut Types, item: Item) -> Result<MeasuredType, Stop>
-        ensures { Grows types.old types.new }
+        ensures grows { Grows types.old types.new }
+        ensures named { item.content ≡ Content.Name → IfOk result
+            (StandsFor (word self.now.text.text.now item.token) (meaning_of self.now (word self.now.text.text.now item.token))) }
     {
         match item.content {
             Content::Type(ty) => Ok(ty),
@@ -93,7 +98,8 @@ impl<'t> Scope<'t> {
 
     /// What a predeclared name of a type stands for. A module has no name for some types that spellings have.
     fn predeclared_type(&self, types: &mut Types, name: Item) -> Result<PredeclaredType, Stop>
-        ensures { Grows types.old types.new }
+        ensures grows { Grows types.old types.new }
+        ensures named { IfOk result (λ named. predeclared_by (word self.now.text.text.now name.token) ≡ Some named) }
     {
         match predeclared(self.text.word(name.token)) {
             None
@@ -305,7 +311,9 @@ fn binding_array(
 }
 
 /// The type that a declaration stands for, named by an item.
-fn declared_type(meaning: Meaning, name: Item) -> Result<MeasuredType, Stop> {
+fn declared_type(meaning: Meaning, name: Item) -> Result<MeasuredType, Stop>
+    ensures { IfOk result (λ ty. meaning ≡ Meaning.Type ty) }
+{
     match meaning {
         Meaning::Type(ty) => Ok(ty),
         Meaning::Faulty | Meaning::Unread => Err(name.elsewhere()),
@@ -316,7 +324,9 @@ fn declared_type(meaning: Meaning, name: Item) -> Result<MeasuredType, Stop> {
 }
 
 /// A type whose name has no template list.
-fn leaf(name: Item, named: PredeclaredType) -> Result<MeasuredType, Stop> {
+fn leaf(name: Item, named: PredeclaredType) -> Result<MeasuredType, Stop>
+    ensures { IfOk result (IsLeaf named) }
+{
     let kind = match named {
         PredeclaredType::Scalar(scalar) => return Ok(MeasuredType::scalar(scalar)),
         PredeclaredType::Vec(n, scalar) => return Ok(MeasuredType::vector(n, scalar)),

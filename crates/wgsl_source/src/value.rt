@@ -1,4 +1,7 @@
 // What is known of a value when a module is read.
+ghost use Rattle.std.specs.Prelude.{IfOk};
+ghost use Rattle.wgsl_source.specs.declared.declaration.Declaration.{Declaration as of_declaration};
+ghost use Rattle.wgsl_source.specs.internal.Read.{IsOfSort};
 
 use crate::fault::{Cause, Stop};
 use crate::measured::{MeasuredType, TypeKind};
@@ -130,7 +133,9 @@ fn float(constant: Constant, scalar: Scalar) -> Result<Value, Cause> {
 
 impl<'t> Scope<'t> {
     /// What a constant with this value stands for, in its type if one is declared.
-    pub fn constant(&self, value: &[Event], ty: Option<MeasuredType>) -> Result<Meaning, Stop> {
+    pub fn constant(&self, value: &[Event], ty: Option<MeasuredType>) -> Result<Meaning, Stop>
+        ensures { (d : of_declaration) → IfOk result (IsOfSort d) }
+    {
         match self.constant_value(value, ty) {
             Ok(value) => Ok(Meaning::Value(value)),
             Err(Stop::Fault(fault)) if fault.cause.is_of_other_value() => {

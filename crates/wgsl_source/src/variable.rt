@@ -1,10 +1,10 @@
 // Variables of a module.
-ghost use Rattle.std.specs.Prelude.{◌≡◌, [], ◌∷◌, IfOk, MatchOption};
-ghost use Rattle.wgsl_source.specs.Declarations.{declared_type};
+ghost use Rattle.std.specs.Prelude.{◌∷◌, IfOk};
 ghost use Rattle.wgsl_source.specs.Members.{Grows};
 ghost use Rattle.wgsl_source.specs.Qualifiers.{AreSaid, IsQualified};
+ghost use Rattle.wgsl_source.specs.TextDeclarations.{of_variables};
 ghost use Rattle.wgsl_source.specs.internal.Items.{item_names};
-ghost use Rattle.wgsl_source.specs.internal.Others.{IsVariableFrom};
+ghost use Rattle.wgsl_source.specs.internal.Others.{IsReadOf};
 
 use crate::attribute::Owner;
 use crate::declaration::Declaration;
@@ -39,8 +39,7 @@ impl<'t> Scope<'t> {
         declaration: &Declaration<'t>,
     ) -> Result<Option<Variable<'t>>, Stop>
         ensures grows { Grows types.old types.new }
-        ensures read { IfOk result (λ v. MatchOption v (declared_type declaration.now.rest.now ≡ [])
-            (IsVariableFrom self.now.text declaration.now)) }
+        ensures read { IfOk result (IsReadOf (of_variables self.now.text) declaration.now) }
     {
         let (attributes, _) = self.read_attributes(declaration.attributes, Owner::Variable)?;
         let (space, access) = self.read_qualifiers(types, declaration)?;

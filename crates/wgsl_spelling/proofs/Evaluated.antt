@@ -1,23 +1,13 @@
 -- What the events of a tree make of a state.
 use Rattle.std.proofs.Common.{◌≡◌, ◌+◌, ℕ, suc, false, List, ◌∷◌, Option, Some, None, cond, decimal, length, pos, refl, ap, ◌∙◌}
-use Rattle.wgsl_constants.specs.Literals.{integer_of, then}
-use Rattle.wgsl_constants.specs.Values.{map_value}
+use Rattle.wgsl_spelling.proofs.Common.{integer_of, then, map_value, Abstract, Event, Token, Chain, word, is_open, last_list, listed_in, Item, Parameters, One, Two, Three}
 use Rattle.wgsl_constants.specs.declared.constant.Constant.TheVariants as constant
-use Rattle.wgsl_constants.specs.declared.integer.Integer.TheVariants.{Abstract}
 use Rattle.wgsl_reader.specs.declared.kind.Kind.TheVariants as k
 use Rattle.wgsl_reader.specs.declared.mark.Mark.TheVariants as m
-use Rattle.wgsl_reader.specs.declared.read.Event.{Event}
-use Rattle.wgsl_reader.specs.declared.token.Token.{Token}
-use Rattle.wgsl_spelling.specs.Chains.{Chain}
 use Rattle.wgsl_spelling.specs.Items.{item}
 use Rattle.wgsl_spelling.specs.Spelled.{State, behind, closed_list, is_bitcast, step_by, state, token_before, with_bitcast, with_item, with_listed, with_type_list}
-use Rattle.wgsl_spelling.specs.Words.{word}
-use Rattle.wgsl_spelling.specs.Templates.{is_open, last_list, listed_in}
-use Rattle.wgsl_spelling.specs.declared.item.Item.{Item}
 use Rattle.wgsl_spelling.specs.declared.item.Value.{Value}
 use Rattle.wgsl_spelling.specs.declared.item.Value.TheVariants as v
-use Rattle.wgsl_spelling.specs.declared.list.Parameters.{Parameters}
-use Rattle.wgsl_spelling.specs.declared.list.Parameters.TheVariants.{One, Two, Three}
 use Rattle.wgsl_spelling.specs.declared.list.TemplateList.{TemplateList}
 use Rattle.wgsl_spelling.proofs.Placed.{Located}
 use Rattle.wgsl_spelling.proofs.TokensPlaced.{Placed}

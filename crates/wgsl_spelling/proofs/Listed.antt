@@ -1,10 +1,8 @@
 -- The template lists in the tokens of a tree.
-use Rattle.std.proofs.Common.{◌≡◌, ◌+◌, ◌++◌, ℕ, suc, Bool, true, false, List, [], ◌∷◌, decimal, length, refl, ap, ◌∙◌}
-use Rattle.std.proofs.lemmas.List.{append_assoc}
+use Rattle.std.proofs.Common.{◌≡◌, ◌+◌, ◌++◌, ℕ, suc, Bool, true, false, List, [], ◌∷◌, decimal, length, refl, ap, ◌∙◌, append_assoc}
 use Rattle.wgsl_reader.proofs.Passed.{step_passes}
-use Rattle.wgsl_reader.specs.Lists.{Search, begun, found_from, of_kind, opened_behind, with_lists}
+use Rattle.wgsl_spelling.proofs.Common.{Search, begun, found_from, of_kind, opened_behind, with_lists, Token}
 use Rattle.wgsl_reader.specs.declared.kind.Kind.TheVariants as k
-use Rattle.wgsl_reader.specs.declared.token.Token.{Token}
 use Rattle.wgsl_spelling.proofs.Trees.{Tree, digits, name, one, past, three, token, tokens, two}
 
 -- what is open is that of another state

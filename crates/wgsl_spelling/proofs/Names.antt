@@ -1,28 +1,15 @@
 -- A value that is found by its name is that of the table.
 use Rattle.std.proofs.Common.{◌≡◌, ◌⊎◌, inl, inr, ℕ, List, MatchOption, Option, Some, None, Result, Ok, Err, refl, sym, ap, ◌∙◌}
 use Rattle.std.specs.Bool.{⊤}
-use Rattle.wgsl_syntax.specs.Address.{IsSpace, access_modes, access_text, space_text, space_text_by, spaces}
-use Rattle.wgsl_syntax.specs.Attribute.{flag_text, flags}
+use Rattle.wgsl_spelling.proofs.Common.{IsSpace, access_modes, access_text, space_text, space_text_by, spaces, flag_text, flags, scalar_text, scalars, IsTexel, texel_formats, texel_text, texel_text_by, sampled_text, sampled_types, AccessMode, AddressSpace, AccelerationStructureFlags, Standard, Scalar, TexelFormat, SampledType, found, access_named, flag_named, format_named, or_else, sampled_named, space_named}
 use Rattle.wgsl_syntax.specs.Names.{Reads, named, table}
-use Rattle.wgsl_syntax.specs.Scalar.{scalar_text, scalars}
-use Rattle.wgsl_syntax.specs.Texel.{IsTexel, texel_formats, texel_text, texel_text_by}
-use Rattle.wgsl_syntax.specs.Texture.{sampled_text, sampled_types}
-use Rattle.wgsl_syntax.specs.declared.address.AccessMode.{AccessMode}
 use Rattle.wgsl_syntax.specs.declared.address.AccessMode.TheVariants as access
-use Rattle.wgsl_syntax.specs.declared.address.AddressSpace.{AddressSpace}
 use Rattle.wgsl_syntax.specs.declared.address.AddressSpace.TheVariants as space
-use Rattle.wgsl_syntax.specs.declared.attribute.AccelerationStructureFlags.{AccelerationStructureFlags}
 use Rattle.wgsl_syntax.specs.declared.attribute.AccelerationStructureFlags.TheVariants as flag
-use Rattle.wgsl_syntax.specs.declared.rules.RuleSet.TheVariants.{Standard}
-use Rattle.wgsl_syntax.specs.declared.scalar.Scalar.{Scalar}
 use Rattle.wgsl_syntax.specs.declared.scalar.Scalar.TheVariants as scalar
-use Rattle.wgsl_syntax.specs.declared.texel.TexelFormat.{TexelFormat}
 use Rattle.wgsl_syntax.specs.declared.texel.TexelFormat.TheVariants as texel
-use Rattle.wgsl_syntax.specs.declared.texture.SampledType.{SampledType}
 use Rattle.wgsl_syntax.specs.declared.texture.SampledType.TheVariants as sampled
 use Rattle.wgsl_syntax.proofs.Naming.{named_text}
-use Rattle.wgsl_constants.specs.Literals.{found}
-use Rattle.wgsl_spelling.specs.Names.{access_named, flag_named, format_named, or_else, sampled_named, space_named}
 
 -- an enumeration whose values are found by their texts
 abbrev pub Back : {A : Type 0} → (A → List ℕ) → List A → Type 0

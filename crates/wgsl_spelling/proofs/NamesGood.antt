@@ -1,36 +1,17 @@
 -- The names in the texts of types are names of WGSL, and stand for what they should.
 use Rattle.std.proofs.Common.{◌≡◌, ◌++◌, ℕ, zero, suc, List, [], ◌∷◌, Some, codes, decimal, refl, sym, subst, arith}
-use Rattle.std.proofs.lemmas.Fmt.{decimal_digit}
-use Rattle.wgsl_reader.specs.Words.{words}
-use Rattle.wgsl_syntax.specs.Address.{access_text, space_text_by}
-use Rattle.wgsl_syntax.specs.Attribute.{flag_text}
-use Rattle.wgsl_syntax.specs.Scalar.{scalar_text}
-use Rattle.wgsl_syntax.specs.Texel.{texel_text_by}
-use Rattle.wgsl_syntax.specs.Texture.{sampled_text, sampler_text}
-use Rattle.wgsl_syntax.specs.TextureName.{name_of, parameters_of, texture_name_text, texture_with}
-use Rattle.wgsl_syntax.specs.declared.address.AccessMode.{AccessMode}
+use Rattle.wgsl_spelling.proofs.Common.{decimal_digit, words, access_text, space_text_by, flag_text, scalar_text, texel_text_by, sampled_text, sampler_text, name_of, parameters_of, texture_name_text, texture_with, AccessMode, AddressSpace, AccelerationStructureFlags, RuleSet, Ported, Standard, Scalar, TexelFormat, SampledType, TextureType, format_named, space_named, predeclared, IsSide}
 use Rattle.wgsl_syntax.specs.declared.address.AccessMode.TheVariants as access
-use Rattle.wgsl_syntax.specs.declared.address.AddressSpace.{AddressSpace}
 use Rattle.wgsl_syntax.specs.declared.address.AddressSpace.TheVariants as space
-use Rattle.wgsl_syntax.specs.declared.attribute.AccelerationStructureFlags.{AccelerationStructureFlags}
 use Rattle.wgsl_syntax.specs.declared.attribute.AccelerationStructureFlags.TheVariants as flag
-use Rattle.wgsl_syntax.specs.declared.rules.RuleSet.{RuleSet}
-use Rattle.wgsl_syntax.specs.declared.rules.RuleSet.TheVariants.{Ported, Standard}
-use Rattle.wgsl_syntax.specs.declared.scalar.Scalar.{Scalar}
 use Rattle.wgsl_syntax.specs.declared.scalar.Scalar.TheVariants as scalar
-use Rattle.wgsl_syntax.specs.declared.texel.TexelFormat.{TexelFormat}
 use Rattle.wgsl_syntax.specs.declared.texel.TexelFormat.TheVariants as texel
-use Rattle.wgsl_syntax.specs.declared.texture.SampledType.{SampledType}
 use Rattle.wgsl_syntax.specs.declared.texture.SampledType.TheVariants as sampled
 use Rattle.wgsl_syntax.specs.declared.texture.SamplerType.{SamplerType}
 use Rattle.wgsl_syntax.specs.declared.texture.SamplerType.TheVariants as sampler
-use Rattle.wgsl_syntax.specs.declared.texture.TextureType.{TextureType}
 use Rattle.wgsl_syntax.specs.declared.texture.TextureType.TheVariants as texture
 use Rattle.wgsl_syntax.specs.declared.texture_name.TextureName.{TextureName}
 use Rattle.wgsl_syntax.specs.declared.texture_name.TextureName.TheVariants as texture_name
-use Rattle.wgsl_spelling.specs.Names.{format_named, space_named}
-use Rattle.wgsl_spelling.specs.Predeclared.{predeclared}
-use Rattle.wgsl_spelling.specs.Written.{IsSide}
 use Rattle.wgsl_spelling.specs.declared.predeclared.LayerName.TheVariants as layer
 use Rattle.wgsl_spelling.specs.declared.predeclared.PredeclaredType.TheVariants as p
 use Rattle.wgsl_spelling.proofs.Names.{format_by, format_naga, space_by, space_naga}

@@ -1,11 +1,8 @@
 -- A text spells at most one type.
 use Rattle.std.proofs.Common.{◌≡◌, ℕ, List, Option, Ok, Err, sym, ap, ◌∙◌}
 use Rattle.wgsl_reader.proofs.OneOutcome.{one_outcome}
-use Rattle.wgsl_reader.specs.Lists.{listed}
-use Rattle.wgsl_reader.specs.Tokens.{Tokens, tokens_of}
-use Rattle.wgsl_reader.specs.declared.token.Token.{Token}
+use Rattle.wgsl_spelling.proofs.Common.{listed, Tokens, tokens_of, Token, Spells, SpellsBy, TokensSpell, type_of_outcome}
 use Rattle.wgsl_rules.specs.types.Types.{WgslType}
-use Rattle.wgsl_spelling.specs.Spelled.{Spells, SpellsBy, TokensSpell, type_of_outcome}
 
 pub one_of_tokens : (text : List ℕ) (tokens : List Token) (t u : Option WgslType) → TokensSpell text tokens t → TokensSpell text tokens u → t ≡ u
 one_of_tokens text tokens t u a b = a.is ∙ (ap (type_of_outcome text tokens) (one_outcome a.read b.read) ∙ sym b.is)

@@ -1,15 +1,7 @@
 -- Where the tokens of a tree stand, and their texts.
-use Rattle.std.proofs.Common.{◌≡◌, ◌<◌, ◌+◌, ◌-◌, ◌++◌, ◌||◌, ℕ, suc, Bool, true, false, List, [], ◌∷◌, cond, decimal, drop, length, length-append, take, refl, sym, ap, subst, ◌∙◌, arith}
-use Rattle.std.specs.Prelude.{nat_eq, nat_le, nat_lt, slice_index, slice_range}
-use Rattle.std.specs.List.{list_all}
-use Rattle.std.proofs.lemmas.Bool.{eq-eqb, le-leb, lt-ltb}
-use Rattle.std.proofs.lemmas.Grind.{common_steps}
-use Rattle.std.proofs.lemmas.List.{append_assoc, append-nil}
-use Rattle.wgsl_reader.specs.Bytes.{is_digit, is_in_ascii_name}
-use Rattle.wgsl_reader.specs.declared.kind.Kind.{Kind}
+use Rattle.std.proofs.Common.{◌≡◌, ◌<◌, ◌+◌, ◌-◌, ◌++◌, ◌||◌, ℕ, suc, Bool, true, false, List, [], ◌∷◌, cond, decimal, drop, length, length-append, take, refl, sym, ap, subst, ◌∙◌, arith, nat_eq, nat_le, nat_lt, slice_index, slice_range, eq-eqb, le-leb, lt-ltb, append_assoc, append-nil}
+use Rattle.wgsl_spelling.proofs.Common.{list_all, common_steps, is_digit, is_in_ascii_name, Kind, Token, is_boundary, word}
 use Rattle.wgsl_reader.specs.declared.kind.Kind.TheVariants as k
-use Rattle.wgsl_reader.specs.declared.token.Token.{Token}
-use Rattle.wgsl_spelling.specs.Words.{is_boundary, word}
 use Rattle.wgsl_spelling.proofs.TreeNumbers.{ascii_number}
 use Rattle.wgsl_spelling.proofs.TreeTokens.{both, taken}
 use Rattle.wgsl_spelling.proofs.Trees.{Ends, IsGood, IsName, Tree, at_end, comma, digits, greater, less, name, one, past, text, three, token, two}

@@ -1,32 +1,13 @@
 -- The text that an answer prints for a type spells that type.
-use Rattle.std.proofs.Common.{◌≡◌, ◌≤◌, ◌++◌, ℕ, false, List, [], ◌∷◌, Option, Some, None, Ok, codes, decimal, refl, sym, ap, subst, ◌∙◌, arith}
-use Rattle.std.specs.Prelude.{nat_eq}
-use Rattle.std.specs.List.{list_all}
-use Rattle.std.proofs.lemmas.Grind.{common_steps}
-use Rattle.std.proofs.lemmas.List.{append_assoc, append-nil}
-use Rattle.wgsl_syntax.specs.Address.{access_text, space_text_by}
-use Rattle.wgsl_syntax.specs.Attribute.{flag_text}
-use Rattle.wgsl_syntax.specs.Texel.{texel_text_by}
-use Rattle.wgsl_syntax.specs.Texture.{sampled_text, texture_name, texture_text_by}
-use Rattle.wgsl_syntax.specs.TextureName.{parameters_of}
-use Rattle.wgsl_syntax.specs.declared.address.AccessMode.{AccessMode}
-use Rattle.wgsl_syntax.specs.declared.rules.RuleSet.{RuleSet}
-use Rattle.wgsl_syntax.specs.declared.texel.TexelFormat.{TexelFormat}
-use Rattle.wgsl_syntax.specs.declared.texture.TextureType.{TextureType}
+use Rattle.std.proofs.Common.{◌≡◌, ◌≤◌, ◌++◌, ℕ, false, List, [], ◌∷◌, Option, Some, None, Ok, codes, decimal, refl, sym, ap, subst, ◌∙◌, arith, nat_eq, append_assoc, append-nil}
+use Rattle.wgsl_spelling.proofs.Common.{list_all, common_steps, access_text, space_text_by, flag_text, texel_text_by, sampled_text, texture_name, texture_text_by, parameters_of, AccessMode, RuleSet, TexelFormat, TextureType, then, is_in_ascii_name, listed as listed_tokens, ReadAt, mark_len, tokens_from, tokens_of, Chain, type_of, IsWritable, layers}
 use Rattle.wgsl_syntax.specs.declared.texture.TextureType.TheVariants as x
 use Rattle.wgsl_rules.specs.types.Spelling.{spelling_by}
 use Rattle.wgsl_rules.specs.types.Types.{WgslType, scalar, struct, atomic, pointer, reference, texture, sampler, binding_array, ray_query, acceleration_structure, array, vec, mat}
-use Rattle.wgsl_constants.specs.Literals.{then}
-use Rattle.wgsl_reader.specs.Bytes.{is_in_ascii_name}
-use Rattle.wgsl_reader.specs.Lists.{listed as listed_tokens}
-use Rattle.wgsl_reader.specs.Reading.{ReadAt}
-use Rattle.wgsl_reader.specs.Tokens.{mark_len, tokens_from, tokens_of}
 use Rattle.wgsl_reader.specs.declared.kind.Kind.TheVariants as k
 use Rattle.wgsl_reader.specs.declared.rule.Rule.TheVariants as r
 use Rattle.wgsl_reader.specs.declared.grammar.Symbol.TheVariants as s
-use Rattle.wgsl_spelling.specs.Chains.{Chain, type_of}
 use Rattle.wgsl_spelling.specs.Spelled.{Spells, SpellsBy, State, TokensSpell, behind, end, nothing, state, type_of_events}
-use Rattle.wgsl_spelling.specs.Written.{IsWritable, layers}
 use Rattle.wgsl_spelling.proofs.Evaluated.{eval, evaluated, made}
 use Rattle.wgsl_spelling.proofs.Listed.{all_listed, listed}
 use Rattle.wgsl_spelling.proofs.Placed.{located}

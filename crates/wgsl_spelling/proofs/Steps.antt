@@ -1,14 +1,10 @@
 -- What operators take from the items.
 use Rattle.std.proofs.Common.{◌≡◌, ◌∷◌, Some, sym, ap, ◌∙◌}
-use Rattle.wgsl_constants.specs.Literals.{then}
-use Rattle.wgsl_constants.specs.Values.{value}
+use Rattle.wgsl_spelling.proofs.Common.{then, value, Kind, State, state, with_binary, with_item, with_unary, Item}
 use Rattle.wgsl_constants.specs.declared.integer.Integer.{Integer}
 use Rattle.wgsl_constants.specs.declared.integer.IntegerOperator.{IntegerOperator}
-use Rattle.wgsl_reader.specs.declared.kind.Kind.{Kind}
 use Rattle.wgsl_reader.specs.declared.kind.Kind.TheVariants as k
-use Rattle.wgsl_spelling.specs.Spelled.{State, state, with_binary, with_item, with_unary}
 use Rattle.wgsl_spelling.specs.Values.{binary, operator_of, sign_value, unary}
-use Rattle.wgsl_spelling.specs.declared.item.Item.{Item}
 
 pub unary_step : (s s1 s2 : State) (operand operator i : Item) → s.items ≡ operand ∷ s1.items → s1.chain ≡ s.chain → s1.items ≡ operator ∷ s2.items → s2.chain ≡ s1.chain
     → unary operator operand ≡ Some i → with_unary s.chain s.items ≡ Some (with_item i s2)

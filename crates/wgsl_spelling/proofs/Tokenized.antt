@@ -1,12 +1,8 @@
 -- The tokens of the text of a tree.
-use Rattle.std.proofs.Common.{◌≡◌, ◌+◌, ◌-◌, ◌++◌, ℕ, suc, true, false, List, [], ◌∷◌, Ok, length, refl, ap, ◌∙◌, arith}
-use Rattle.std.specs.Prelude.{◌||◌, nat_eq, nat_le}
-use Rattle.std.proofs.lemmas.Grind.{common_steps}
-use Rattle.wgsl_reader.specs.Bytes.{is_digit}
-use Rattle.wgsl_reader.specs.Tokens.{in_front, piece_of, tokens_from, with_piece}
+use Rattle.std.proofs.Common.{◌≡◌, ◌+◌, ◌-◌, ◌++◌, ℕ, suc, true, false, List, [], ◌∷◌, Ok, length, refl, ap, ◌∙◌, arith, ◌||◌, nat_eq, nat_le}
+use Rattle.wgsl_spelling.proofs.Common.{common_steps, is_digit, in_front, piece_of, tokens_from, with_piece, Token}
 use Rattle.wgsl_reader.specs.declared.kind.Kind.TheVariants as k
 use Rattle.wgsl_reader.specs.declared.piece.Piece.TheVariants as p
-use Rattle.wgsl_reader.specs.declared.token.Token.{Token}
 use Rattle.wgsl_spelling.proofs.TreeNumbers.{number_token, starts_number}
 use Rattle.wgsl_spelling.proofs.TreeTokens.{name_token}
 use Rattle.wgsl_spelling.proofs.Trees.{Ends, IsGood, IsName, Tree, comma, digits, greater, less, name, one, past, starts, text, three, token, tokens, two}

@@ -1,10 +1,7 @@
 -- Which tokens stand in front of the events of a tree.
-use Rattle.std.proofs.Common.{◌≡◌, ◌+◌, ◌-◌, ◌++◌, ℕ, suc, List, [], ◌∷◌, decimal, length, length-append, refl, sym, ap, ◌∙◌, arith}
-use Rattle.std.specs.Prelude.{slice_index_or}
-use Rattle.std.proofs.lemmas.List.{append_assoc}
+use Rattle.std.proofs.Common.{◌≡◌, ◌+◌, ◌-◌, ◌++◌, ℕ, suc, List, [], ◌∷◌, decimal, length, length-append, refl, sym, ap, ◌∙◌, arith, slice_index_or, append_assoc}
 use Rattle.wgsl_reader.specs.declared.kind.Kind.TheVariants as k
-use Rattle.wgsl_reader.specs.declared.token.Token.{Token}
-use Rattle.wgsl_spelling.specs.Spelled.{no_token, token_before}
+use Rattle.wgsl_spelling.proofs.Common.{Token, no_token, token_before}
 use Rattle.wgsl_spelling.proofs.Listed.{listed}
 use Rattle.wgsl_spelling.proofs.TreeEvents.{count}
 use Rattle.wgsl_spelling.proofs.Trees.{Tree, digits, name, one, past, three, token, two}

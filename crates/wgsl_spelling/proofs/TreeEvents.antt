@@ -1,16 +1,13 @@
 -- What WGSL's grammar reads in the tokens of a tree.
 use Rattle.std.proofs.Common.{◌≡◌, ◌+◌, ℕ, List, [], ◌∷◌, Ok, map, refl, ap, ◌∙◌}
 use Rattle.wgsl_reader.specs.Grammar.{expressions, modules, statements}
-use Rattle.wgsl_reader.specs.Reading.{Outcome, ReadAt, all_read, kind_of, noted, rule_read, token_read}
-use Rattle.wgsl_reader.specs.declared.kind.Kind.{Kind}
+use Rattle.wgsl_spelling.proofs.Common.{Outcome, ReadAt, all_read, kind_of, noted, rule_read, token_read, Kind, Event, Token}
 use Rattle.wgsl_reader.specs.declared.kind.Kind.TheVariants as k
 use Rattle.wgsl_reader.specs.declared.mark.Mark.{Mark}
 use Rattle.wgsl_reader.specs.declared.mark.Mark.TheVariants as m
 use Rattle.wgsl_reader.specs.declared.rule.Rule.TheVariants as r
 use Rattle.wgsl_reader.specs.declared.grammar.Symbol.{Symbol}
 use Rattle.wgsl_reader.specs.declared.grammar.Symbol.TheVariants as s
-use Rattle.wgsl_reader.specs.declared.read.Event.{Event}
-use Rattle.wgsl_reader.specs.declared.token.Token.{Token}
 use Rattle.wgsl_spelling.proofs.Listed.{listed}
 use Rattle.wgsl_spelling.proofs.Trees.{Tree, digits, name, one, three, two}
 

@@ -1,19 +1,10 @@
 -- Decimal numbers as tokens, and the integers that they stand for.
-use Rattle.std.proofs.Common.{◌≡◌, ◌<◌, ◌≤◌, ◌^◌, ◌+◌, ◌-◌, ◌*◌, ◌/◌, ◌%◌, ◌++◌, ℕ, zero, suc, Bool, true, false, List, [], ◌∷◌, Ok, Option, Some, None, cond, decimal, drop, get_or, length, take, pos, refl, sym, ap, ◌∙◌, arith}
-use Rattle.std.specs.Prelude.{◌||◌, ◌&&◌, nat_eq, nat_le, nat_lt}
+use Rattle.std.proofs.Common.{◌≡◌, ◌<◌, ◌≤◌, ◌^◌, ◌+◌, ◌-◌, ◌*◌, ◌/◌, ◌%◌, ◌++◌, ℕ, zero, suc, Bool, true, false, List, [], ◌∷◌, Ok, Option, Some, None, cond, decimal, drop, get_or, length, take, pos, refl, sym, ap, ◌∙◌, arith, ◌||◌, ◌&&◌, nat_eq, nat_le, nat_lt, le-leb, lt-ltb}
 use Rattle.std.specs.Char.{digit_value}
-use Rattle.std.specs.List.{list_all, prefix_len}
-use Rattle.std.proofs.lemmas.Bool.{le-leb, lt-ltb}
-use Rattle.std.proofs.lemmas.Fmt.{decimal_by_steps, decimal_digit, decimal_nonempty, first_decimal}
-use Rattle.std.proofs.lemmas.Grind.{common_steps}
-use Rattle.wgsl_reader.specs.Bytes.{byte_at, is_digit}
+use Rattle.wgsl_spelling.proofs.Common.{list_all, prefix_len, decimal_by_steps, decimal_digit, decimal_nonempty, first_decimal, common_steps, byte_at, is_digit, is_blank, piece_of, tokens_from, Token, appended, behind, ends_with, integer_of, is_wrong, number, Abstract}
 use Rattle.wgsl_reader.specs.Numbers.{decimal_len, decimal_suffix, digits_len, exponent_len, fraction_len, is_digit_of, is_hexadecimal, number_len}
-use Rattle.wgsl_reader.specs.Tokens.{is_blank, piece_of, tokens_from}
 use Rattle.wgsl_reader.specs.declared.kind.Kind.TheVariants as k
 use Rattle.wgsl_reader.specs.declared.piece.Piece.TheVariants as p
-use Rattle.wgsl_reader.specs.declared.token.Token.{Token}
-use Rattle.wgsl_constants.specs.Literals.{appended, behind, ends_with, integer_of, is_wrong, number}
-use Rattle.wgsl_constants.specs.declared.integer.Integer.TheVariants.{Abstract}
 use Rattle.wgsl_spelling.proofs.Trees.{Ends, at_end, comma, greater, less, starts, token}
 use Rattle.wgsl_spelling.proofs.TreeTokens.{both, by_piece}
 

@@ -1,16 +1,10 @@
 -- Names as tokens.
-use Rattle.std.proofs.Common.{◌≡◌, ◌<◌, ◌≤◌, ◌+◌, ◌-◌, ◌++◌, ℕ, suc, Bool, true, false, List, [], ◌∷◌, Ok, length, take, refl, ap, ◌∙◌, arith}
-use Rattle.std.specs.Prelude.{◌&&◌}
-use Rattle.std.specs.List.{list_all}
-use Rattle.std.proofs.lemmas.Bool.{leb-true}
-use Rattle.std.proofs.lemmas.Grind.{common_steps}
-use Rattle.wgsl_reader.specs.Bytes.{byte_at, is_in_ascii_name}
+use Rattle.std.proofs.Common.{◌≡◌, ◌<◌, ◌≤◌, ◌+◌, ◌-◌, ◌++◌, ℕ, suc, Bool, true, false, List, [], ◌∷◌, Ok, length, take, refl, ap, ◌∙◌, arith, ◌&&◌, leb-true}
+use Rattle.wgsl_spelling.proofs.Common.{list_all, common_steps, byte_at, is_in_ascii_name, word_of, Token}
 use Rattle.wgsl_reader.specs.Numbers.{begins_number}
 use Rattle.wgsl_reader.specs.Tokens.{in_front, is_blank, is_in_name, name_len, name_of, piece_of, tokens_from, with_piece}
-use Rattle.wgsl_reader.specs.Words.{word_of}
 use Rattle.wgsl_reader.specs.declared.kind.Kind.TheVariants as k
 use Rattle.wgsl_reader.specs.declared.piece.Piece.TheVariants as p
-use Rattle.wgsl_reader.specs.declared.token.Token.{Token}
 use Rattle.wgsl_spelling.proofs.Trees.{Ends, IsName, at_end, comma, greater, less, token}
 
 pub both : (a b : Bool) → (a && b) ≡ true → (a ≡ true) × (b ≡ true)

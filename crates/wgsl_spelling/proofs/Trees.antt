@@ -1,13 +1,7 @@
 -- The texts of types as trees: a name, a number, or a name with a template list.
-use Rattle.std.proofs.Common.{◌≡◌, ◌<◌, ◌^◌, ◌+◌, ◌++◌, ℕ, suc, Bool, true, false, List, [], ◌∷◌, decimal, length}
-use Rattle.std.specs.Prelude.{◌||◌, nat_le}
-use Rattle.std.specs.List.{list_all}
-use Rattle.wgsl_reader.specs.Bytes.{is_digit, is_in_ascii_name}
-use Rattle.wgsl_reader.specs.Words.{word_of}
-use Rattle.wgsl_reader.specs.declared.kind.Kind.{Kind}
+use Rattle.std.proofs.Common.{◌≡◌, ◌<◌, ◌^◌, ◌+◌, ◌++◌, ℕ, suc, Bool, true, false, List, [], ◌∷◌, decimal, length, ◌||◌, nat_le}
+use Rattle.wgsl_spelling.proofs.Common.{list_all, is_digit, is_in_ascii_name, word_of, Kind, Token, is_bitcast}
 use Rattle.wgsl_reader.specs.declared.kind.Kind.TheVariants as k
-use Rattle.wgsl_reader.specs.declared.token.Token.{Token}
-use Rattle.wgsl_spelling.specs.Spelled.{is_bitcast}
 
 pub data Tree : Type 0 where
   name : List ℕ → Tree

@@ -1,25 +1,9 @@
 -- The trees of types, and what their events say.
 use Rattle.std.proofs.Common.{◌≡◌, ◌+◌, ◌++◌, ℕ, List, [], ◌∷◌, Option, Some, None, codes, decimal, length, length-append, refl, ap, ◌∙◌, arith}
-use Rattle.wgsl_syntax.specs.Address.{access_text, space_text_by}
-use Rattle.wgsl_syntax.specs.Attribute.{flag_text}
-use Rattle.wgsl_syntax.specs.Scalar.{scalar_text}
-use Rattle.wgsl_syntax.specs.Texel.{texel_text_by}
-use Rattle.wgsl_syntax.specs.Texture.{sampled_text, sampler_text, texture_name}
-use Rattle.wgsl_syntax.specs.TextureName.{name_of, parameters_of}
-use Rattle.wgsl_syntax.specs.declared.around.Around.{Around}
-use Rattle.wgsl_syntax.specs.declared.around.Around.TheVariants.{Array, Vec, Mat, BindingArray, Atomic, Ptr, Ref}
-use Rattle.wgsl_syntax.specs.declared.attribute.AccelerationStructureFlags.{AccelerationStructureFlags}
-use Rattle.wgsl_syntax.specs.declared.rules.RuleSet.{RuleSet}
+use Rattle.wgsl_spelling.proofs.Common.{access_text, space_text_by, flag_text, scalar_text, texel_text_by, sampled_text, sampler_text, texture_name, name_of, parameters_of, Around, Array, Vec, Mat, BindingArray, Atomic, Ptr, Ref, AccelerationStructureFlags, RuleSet, TextureParameters, around, map_value, then, Chain, leaf_type, type_of, wrapped, IsWritable, layers, Leaf}
 use Rattle.wgsl_syntax.specs.declared.scalar.Scalar.TheVariants as scalars
-use Rattle.wgsl_syntax.specs.declared.texture_name.TextureParameters.{TextureParameters}
 use Rattle.wgsl_syntax.specs.declared.texture_name.TextureParameters.TheVariants as parameters
-use Rattle.wgsl_rules.specs.types.Around.{around}
 use Rattle.wgsl_rules.specs.types.Types.{WgslType, scalar, struct, atomic, pointer, reference, texture, sampler, binding_array, ray_query, acceleration_structure, array, vec, mat}
-use Rattle.wgsl_constants.specs.Values.{map_value}
-use Rattle.wgsl_constants.specs.Literals.{then}
-use Rattle.wgsl_spelling.specs.Chains.{Chain, leaf_type, type_of, wrapped}
-use Rattle.wgsl_spelling.specs.Written.{IsWritable, layers}
-use Rattle.wgsl_spelling.specs.declared.chain.Leaf.{Leaf}
 use Rattle.wgsl_spelling.specs.declared.chain.Leaf.TheVariants as leaf
 use Rattle.wgsl_spelling.proofs.NamesGood.{access_good, acceleration_structure_good, array_good, atomic_good, binding_array_good, flag_good, mat_good, ptr_good, ray_query_good, ref_good, sampled_good, sampler_good, scalar_good, side, space_good, texel_good, texture_good, vec_good}
 use Rattle.wgsl_spelling.proofs.TreeEvents.{IsType, name_is, one_is, three_is, two_is}

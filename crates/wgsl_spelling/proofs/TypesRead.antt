@@ -1,38 +1,11 @@
 -- The events of the tree of a type make its chain.
-use Rattle.std.proofs.Common.{◌≡◌, ◌<◌, ◌≤◌, ◌+◌, ◌++◌, ℕ, suc, List, Some, None, codes, cond, decimal, length, refl, ap, ◌∙◌, arith}
-use Rattle.std.proofs.lemmas.Bool.{lt-ltb}
-use Rattle.wgsl_syntax.specs.Address.{access_text, space_text_by}
-use Rattle.wgsl_syntax.specs.Attribute.{flag_text}
-use Rattle.wgsl_syntax.specs.Scalar.{scalar_text}
-use Rattle.wgsl_syntax.specs.Texel.{texel_text_by}
-use Rattle.wgsl_syntax.specs.Texture.{sampled_text, sampler_text, texture_name}
-use Rattle.wgsl_syntax.specs.TextureName.{name_of, parameters_of, texture_with}
-use Rattle.wgsl_syntax.specs.declared.address.AccessMode.{AccessMode}
-use Rattle.wgsl_syntax.specs.declared.address.AddressSpace.{AddressSpace}
-use Rattle.wgsl_syntax.specs.declared.around.Around.{Around}
-use Rattle.wgsl_syntax.specs.declared.around.Around.TheVariants.{Array, Vec, Mat, BindingArray, Atomic, Ptr, Ref}
-use Rattle.wgsl_syntax.specs.declared.attribute.AccelerationStructureFlags.{AccelerationStructureFlags}
-use Rattle.wgsl_syntax.specs.declared.rules.RuleSet.{RuleSet}
-use Rattle.wgsl_syntax.specs.declared.texture.TextureType.{TextureType}
-use Rattle.wgsl_syntax.specs.declared.texture_name.TextureParameters.{TextureParameters}
+use Rattle.std.proofs.Common.{◌≡◌, ◌<◌, ◌≤◌, ◌+◌, ◌++◌, ℕ, suc, List, Some, None, codes, cond, decimal, length, refl, ap, ◌∙◌, arith, lt-ltb}
+use Rattle.wgsl_spelling.proofs.Common.{access_text, space_text_by, flag_text, scalar_text, texel_text_by, sampled_text, sampler_text, texture_name, name_of, parameters_of, texture_with, AccessMode, AddressSpace, Around, Array, Vec, Mat, BindingArray, Atomic, Ptr, Ref, AccelerationStructureFlags, RuleSet, TextureType, TextureParameters, then, map_value, Chain, push, with_name, with_plain, with_type, with_word, access_named, flag_named, format_named, sampled_named, space_named, predeclared, nothing, with_listed, listed_by, listed_in, word, IsWritable, layers, Leaf, Item, Parameters, One, Two, Three}
 use Rattle.wgsl_syntax.specs.declared.texture_name.TextureParameters.TheVariants as parameters
 use Rattle.wgsl_rules.specs.types.Types.{WgslType, scalar, struct, atomic, pointer, reference, texture, sampler, binding_array, ray_query, acceleration_structure, array, vec, mat}
-use Rattle.wgsl_constants.specs.Literals.{then}
-use Rattle.wgsl_constants.specs.Values.{map_value}
-use Rattle.wgsl_spelling.specs.Chains.{Chain, push, with_name, with_plain, with_type, with_word}
-use Rattle.wgsl_spelling.specs.Names.{access_named, flag_named, format_named, sampled_named, space_named}
-use Rattle.wgsl_spelling.specs.Predeclared.{predeclared}
-use Rattle.wgsl_spelling.specs.Spelled.{nothing, with_listed}
-use Rattle.wgsl_spelling.specs.Templates.{listed_by, listed_in}
-use Rattle.wgsl_spelling.specs.Words.{word}
-use Rattle.wgsl_spelling.specs.Written.{IsWritable, layers}
-use Rattle.wgsl_spelling.specs.declared.chain.Leaf.{Leaf}
 use Rattle.wgsl_spelling.specs.declared.chain.Leaf.TheVariants as leaf
-use Rattle.wgsl_spelling.specs.declared.item.Item.{Item}
 use Rattle.wgsl_spelling.specs.declared.list.Listed.{Listed}
 use Rattle.wgsl_spelling.specs.declared.list.Listed.TheVariants as listed
-use Rattle.wgsl_spelling.specs.declared.list.Parameters.{Parameters}
-use Rattle.wgsl_spelling.specs.declared.list.Parameters.TheVariants.{One, Two, Three}
 use Rattle.wgsl_spelling.specs.declared.predeclared.LayerName.TheVariants as layer
 use Rattle.wgsl_spelling.specs.declared.predeclared.PredeclaredType.{PredeclaredType}
 use Rattle.wgsl_spelling.specs.declared.predeclared.PredeclaredType.TheVariants as p

@@ -1,5 +1,5 @@
 -- What the predeclared names of types stand for (WGSL, "Predeclared Types", "Predeclared Type-Generators and Aliases").
-use Rattle.std.specs.Prelude.{ℕ, ◌-◌, List, [], ◌∷◌, Bool, false, ◌&&◌, cond, Option, Some, None, codes, drop, nat_eq, nat_le}
+use Rattle.std.specs.Prelude.{ℕ, ◌-◌, List, [], ◌∷◌, Bool, true, false, ◌&&◌, cond, Option, Some, None, codes, drop, nat_eq, nat_le}
 use Rattle.wgsl_syntax.specs.Names.{named, table}
 use Rattle.wgsl_syntax.specs.Scalar.{scalar_text, scalars}
 use Rattle.wgsl_syntax.specs.TextureName.{texture_name_text, texture_names}
@@ -62,3 +62,20 @@ predeclared name =
     or_else (map_value p.Scalar (named (table scalar_text scalars) name))
     (or_else (map_value p.Texture (named (table texture_name_text texture_names) name))
     (other_type name))
+
+-- the type is one of half precision: `f16`, `vec3h`
+abbrev pub is_half : PredeclaredType → Bool
+is_half (p.Scalar scalar.F16) = true
+is_half (p.Vec n scalar.F16) = true
+is_half (p.Mat c r scalar.F16) = true
+is_half named = false
+
+-- naga alone has the type: `i64`, `ray_query`
+abbrev pub is_naga_only : PredeclaredType → Bool
+is_naga_only (p.Scalar scalar.I64) = true
+is_naga_only (p.Scalar scalar.U64) = true
+is_naga_only (p.Scalar scalar.F64) = true
+is_naga_only p.RayQuery = true
+is_naga_only p.AccelerationStructure = true
+is_naga_only (p.Layer layer.BindingArray) = true
+is_naga_only named = false

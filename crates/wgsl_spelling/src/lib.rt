@@ -23,6 +23,7 @@ mod item;
 pub mod laws;
 mod list;
 pub mod meant;
+pub mod name;
 pub mod operator;
 pub mod predeclared;
 pub mod spelled;

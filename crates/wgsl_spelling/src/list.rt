@@ -7,6 +7,7 @@ ghost use Rattle.wgsl_spelling.specs.Templates.{bitcast, bitcast_named, flag, is
 use crate::chain::Leaf;
 use crate::fault::{Cause, Expected, Stop, stop_at};
 use crate::item::{Item, Value};
+use crate::name::{access_named, format_named, space_named};
 use crate::predeclared::{LayerName, PredeclaredType, predeclared};
 use crate::value::count;
 use crate::word::word;
@@ -17,7 +18,6 @@ use wgsl_reader::token::Token;
 use wgsl_syntax::address::{AccessMode, AddressSpace};
 use wgsl_syntax::around::Around;
 use wgsl_syntax::attribute::AccelerationStructureFlags;
-use wgsl_syntax::rules::RuleSet;
 use wgsl_syntax::texel::TexelFormat;
 use wgsl_syntax::texture::{SampledType, TextureType};
 use wgsl_syntax::texture_name::{TextureName, TextureParameters};
@@ -209,11 +209,10 @@ fn flag(text: &str, list: TemplateList) -> Result<AccelerationStructureFlags, St
     }
 }
 
-#[tactic(auto, using(crate::proofs::Names::space_is))]
 fn space_of(text: &str, item: Item) -> Result<AddressSpace, Stop>
     ensures { Gives (λ found. found) (space_named (name text.now item)) result }
 {
-    match AddressSpace::named_by(RuleSet::Standard, name(text, item)) {
+    match space_named(name(text, item)) {
         Some(space) => Ok(space),
         None => Err(stop_at(item.token.at, Cause::Expected(Expected::AddressSpace))),
     }
@@ -222,17 +221,16 @@ fn space_of(text: &str, item: Item) -> Result<AddressSpace, Stop>
 fn access_of(text: &str, item: Item) -> Result<AccessMode, Stop>
     ensures { Gives (λ found. found) (access_named (name text.now item)) result }
 {
-    match AccessMode::from_str(name(text, item)) {
-        Ok(access) => Ok(access),
-        Err(_) => Err(stop_at(item.token.at, Cause::Expected(Expected::AccessMode))),
+    match access_named(name(text, item)) {
+        Some(access) => Ok(access),
+        None => Err(stop_at(item.token.at, Cause::Expected(Expected::AccessMode))),
     }
 }
 
-#[tactic(auto, using(crate::proofs::Names::format_is))]
 fn format_of(text: &str, item: Item) -> Result<TexelFormat, Stop>
     ensures { Gives (λ found. found) (format_named (name text.now item)) result }
 {
-    match TexelFormat::named_by(RuleSet::Standard, name(text, item)) {
+    match format_named(name(text, item)) {
         Some(format) => Ok(format),
         None => Err(stop_at(item.token.at, Cause::Expected(Expected::TexelFormat))),
     }

@@ -2,7 +2,7 @@
 ghost use Rattle.std.specs.Prelude.{◌≡◌};
 ghost use Rattle.wgsl_syntax.specs.Names.{named, table};
 ghost use Rattle.wgsl_syntax.specs.Scalar.{scalar_text, scalars};
-ghost use Rattle.wgsl_spelling.specs.Predeclared.{count, matrix_type, other_names, other_type, predeclared, short_float, short_scalar, vector_type};
+ghost use Rattle.wgsl_spelling.specs.Predeclared.{count, is_half, is_naga_only, matrix_type, other_names, other_type, predeclared, short_float, short_scalar, vector_type};
 
 use std::str::FromStr;
 use wgsl_syntax::scalar::Scalar;
@@ -27,17 +27,21 @@ pub enum PredeclaredType {
 
 impl PredeclaredType {
     /// Whether the type is one of half precision.
-    pub fn is_half(self) -> bool {
-        match self {
-            PredeclaredType::Scalar(scalar)
-            | PredeclaredType::Vec(_, scalar)
-            | PredeclaredType::Mat(_, _, scalar) => { scalar == Scalar::F16 }
-            _ => false,
-        }
+    pub fn is_half(self) -> bool
+        ensures { result ≡ is_half self }
+    {
+        matches!(
+            self,
+            PredeclaredType::Scalar(Scalar::F16)
+                | PredeclaredType::Vec(_, Scalar::F16)
+                | PredeclaredType::Mat(_, _, Scalar::F16)
+        )
     }
 
     /// Whether naga alone has the type.
-    pub fn is_naga_only(self) -> bool {
+    pub fn is_naga_only(self) -> bool
+        ensures { result ≡ is_naga_only self }
+    {
         matches!(
             self,
             PredeclaredType::Scalar(Scalar::I64 | Scalar::U64 | Scalar::F64)

@@ -84,7 +84,8 @@ pub fn literal(text: &str, token: Token) -> Result<Constant, Stop>
     }
 }
 
-fn bool_of(kind: Kind) -> Option<bool>
+/// What a literal of a kind stands for, if it is `true` or `false`.
+pub fn bool_of(kind: Kind) -> Option<bool>
     ensures { result ≡ bool_of kind }
 {
     match kind {

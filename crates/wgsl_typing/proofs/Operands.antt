@@ -1,20 +1,9 @@
 -- What is asked of overloads and of forms, by what operands are shown as.
 use Rattle.std.proofs.Common.{◌≡◌, List, [], ◌∷◌, Option, Result, Ok, Err, IfOk, Some, None, map, refl, ap, subst, ◌∙◌, sym}
-use Rattle.std.specs.declared.alloc.AllocError.{AllocError}
-use Rattle.wgsl_rules.specs.standard.Choice.{Operand, value_of}
-use Rattle.wgsl_rules.specs.types.Types.{WgslType}
-use Rattle.wgsl_standard.specs.Callees.{WgslCallee}
+use Rattle.wgsl_typing.proofs.Common.{AllocError, Operand, value_of, WgslType, WgslCallee, IsCallResolution, ResolvedCall, IsInferredArray, Refusal, given, Part, Typed, IsAnswer, IsMessage, loaded, operands_of, resolved, shown, typed_parts, types_of, Unresolved}
 use Rattle.wgsl_standard.specs.Operands.{given_type, operands_view}
-use Rattle.wgsl_standard.specs.Resolved.{IsCallResolution}
 use Rattle.wgsl_standard.specs.Texts.{types_given}
 use Rattle.wgsl_standard.specs.declared.operand.Operand.{Operand as CodeOperand}
-use Rattle.wgsl_standard.specs.declared.resolved.ResolvedCall.{ResolvedCall}
-use Rattle.wgsl_forms.specs.Refusals.{Refusal}
-use Rattle.wgsl_forms.specs.Views.{given}
-use Rattle.wgsl_names.specs.declared.known.Part.{Part}
-use Rattle.wgsl_names.specs.declared.known.Typed.{Typed}
-use Rattle.wgsl_typing.specs.Outcomes.{IsAnswer, IsMessage, loaded, operands_of, resolved, shown, typed_parts, types_of}
-use Rattle.wgsl_typing.specs.declared.ask.Unresolved.{Unresolved}
 
 abbrev loaded_operand : Operand → Operand
 loaded_operand x = record { of_type = value_of x.of_type; is_constant = x.is_constant }
@@ -54,6 +43,12 @@ pub resolved_by_parts : (callee : WgslCallee) (template : Option WgslType) (ps :
 resolved_by_parts callee template ps r {xs} {ys} same there done =
     let P : List Operand → Type 0 = λ zs. IfOk r (λ found. IsCallResolution callee template zs (resolved found)) in
     subst P (ap operands_view there ∙ views_of xs (typed_parts ps) same) done
+
+-- what is inferred, by the parts that were shown
+pub inferred_by_parts : (ps : List Part) (answer : Result WgslType Refusal) {xs ys : List CodeOperand} → map given xs ≡ map shown (typed_parts ps) → ys ≡ xs
+    → IsInferredArray (types_given ys) answer → IsInferredArray (types_of ps) answer
+inferred_by_parts ps answer {xs} {ys} same there is =
+    let P : List WgslType → Type 0 = λ ts. IsInferredArray ts answer in subst P (ap types_given there ∙ types_shown xs (typed_parts ps) same) is
 
 -- what is answered, by the answer of the form
 

@@ -1,22 +1,11 @@
 -- What a call is that resolves to something, and what is declared with a value.
 use Rattle.std.proofs.Common.{◌≡◌, List, Option, Result, Ok, Err, IfOk, Some, None, option_map, sym, subst, ap, ◌∙◌}
-use Rattle.std.specs.declared.alloc.AllocError.{AllocError}
-use Rattle.wgsl_core.specs.View.{view}
+use Rattle.wgsl_typing.proofs.Common.{AllocError, view, Operand, WgslType, WgslCallee, IsCallResolution, IsInferredArray, resolved_view, ResolvedCall, Refusal, Outcome, Part, Typed, Stage, IsHeld, IsHeldFor, answer_of, Unresolved}
 use Rattle.wgsl_core.specs.declared.ty.Type.{«Type»}
-use Rattle.wgsl_rules.specs.standard.Choice.{Operand}
-use Rattle.wgsl_rules.specs.types.Types.{WgslType}
-use Rattle.wgsl_standard.specs.Callees.{WgslCallee}
-use Rattle.wgsl_standard.specs.Resolved.{IsCallResolution, resolved_view}
-use Rattle.wgsl_standard.specs.declared.resolved.ResolvedCall.{ResolvedCall}
-use Rattle.wgsl_forms.specs.Refusals.{Refusal}
 use Rattle.wgsl_forms.specs.declared.form.Referent.TheVariants.{Whole}
-use Rattle.wgsl_names.specs.declared.known.Outcome.{Outcome}
 use Rattle.wgsl_names.specs.declared.known.Outcome.TheVariants as outcomes
-use Rattle.wgsl_names.specs.declared.known.Typed.{Typed}
-use Rattle.wgsl_names.specs.declared.stage.Stage.{Stage}
-use Rattle.wgsl_typing.specs.Declarations.{IsHeld, IsHeldFor, answer_of}
-use Rattle.wgsl_typing.specs.Outcomes.{HasResult, HasType, IsAnswer, IsFound, IsMade, IsOverloaded, IsType, OrFaulty, resolved}
-use Rattle.wgsl_typing.specs.declared.ask.Unresolved.{Unresolved}
+use Rattle.wgsl_typing.specs.Counts.{unless_counted}
+use Rattle.wgsl_typing.specs.Outcomes.{HasResult, HasType, IsAnswer, IsFound, IsInferred, IsInferredAs, IsMade, IsOverloaded, IsType, OrFaulty, resolved, stage_of, types_of}
 
 or_faulty_of : (P : Outcome → Type 0) (o : Outcome) → P o → OrFaulty P o
 or_faulty_of P (outcomes.Typed x) p = p
@@ -71,3 +60,15 @@ pub made_in : {E : Type 0} (stage : Stage) (answer : Result WgslType Refusal) (f
     → IsAnswer IsType answer found → IfOk r (IsFound stage found) → IfOk r (IsMade stage answer)
 made_in stage answer found (Ok o) is made = made_as stage answer found o is made
 made_in stage answer found (Err e) is made = made
+
+pub inferred_in : {E : Type 0} (xs : List Part) (found : Result «Type» E) (r : Result Outcome AllocError)
+    → IsInferredAs xs found → IfOk r (IsFound (stage_of xs) found) → IfOk r (IsInferred xs)
+inferred_in xs found (Ok o) is made = (is.0, is.1, made_as (stage_of xs) (unless_counted is.0) found o is.2 made)
+inferred_in xs found (Err e) is made = made
+
+-- the array, unless an override counts its elements, by the parts that were shown
+pub inferred_unless : {E : Type 0} (ps : List Part) (answer : Result WgslType Refusal) {t : WgslType} (r : Result (Result «Type» E) AllocError)
+    → IsInferredArray (types_of ps) answer → Ok t ≡ answer → IfOk r (IsAnswer IsType (unless_counted (Ok t))) → IfOk r (IsInferredAs ps)
+inferred_unless {E} ps answer (Ok found) is same answered =
+    let P : Result WgslType Refusal → Type 0 = λ a. IsAnswer IsType (unless_counted a) found in (answer, is, subst P same answered)
+inferred_unless {E} ps answer (Err e) is same answered = answered

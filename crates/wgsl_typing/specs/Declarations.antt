@@ -1,5 +1,5 @@
 -- What a name is declared as, by its value and the type behind the colon (WGSL, "Variable and Value Declarations").
-use Rattle.std.specs.Prelude.{◌≡◌, Bool, true, false, Option, Some, None, Result, Ok, Err, not}
+use Rattle.std.specs.Prelude.{◌≡◌, List, ◌∷◌, Bool, true, false, Option, Some, None, Result, Ok, Err, not}
 use Rattle.wgsl_core.specs.View.{view}
 use Rattle.wgsl_rules.specs.standard.Choice.{Operand}
 use Rattle.wgsl_rules.specs.types.Types.{WgslType}
@@ -22,6 +22,8 @@ use Rattle.wgsl_names.specs.declared.stage.Stage.TheVariants as stages
 use Rattle.wgsl_typing.specs.Outcomes.{shown}
 use Rattle.wgsl_typing.specs.declared.declared.Declared.{Declared}
 use Rattle.wgsl_typing.specs.declared.declared.Declared.TheVariants as types
+use Rattle.wgsl_typing.specs.declared.item.Item.{Item}
+use Rattle.wgsl_typing.specs.declared.item.Item.TheVariants as items
 
 abbrev pub is_refused : {A E : Type 0} → Result A E → Bool
 is_refused (Ok a) = false
@@ -53,6 +55,12 @@ value_of_variable space x = shown x
 abbrev pub type_behind : Declared → Option WgslType
 type_behind (types.Type ty) = Some (view ty)
 type_behind other = None
+
+-- the one on top, if there is one
+abbrev pub declared_on : List Item → Declared
+declared_on (items.DeclaredType (Some ty) ∷ rest) = types.Type ty
+declared_on (items.DeclaredType None ∷ rest) = types.Faulty
+declared_on is = types.No
 
 -- It is declared with the type that the rules give, or, where they refuse it or its value is out of range, faulty.
 abbrev pub IsHeld : Stage → Result WgslType Refusal → Option Typed → Type 0

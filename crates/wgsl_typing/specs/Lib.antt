@@ -1,3 +1,15 @@
+pub mod Calls
+pub mod Counts
 pub mod Declarations
+pub mod Literals
+pub mod Members
+pub mod Names
+pub mod Operators
 pub mod Outcomes
+pub mod Parameters
+pub mod Predeclared
+pub mod Stacks
+pub mod Steps
+pub mod Templates
+pub mod Types
 pub mod Words

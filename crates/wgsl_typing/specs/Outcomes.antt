@@ -2,13 +2,16 @@
 use Rattle.std.specs.Prelude.{◌≡◌, ℕ, List, [], ◌∷◌, ◌++◌, Bool, true, false, Option, Some, None, Result, Ok, Err, IsSome, codes, cond, decimal, nat_eq, map, option_map}
 use Rattle.wgsl_core.specs.View.{view}
 use Rattle.wgsl_core.specs.declared.ty.Type.{«Type»}
+use Rattle.wgsl_syntax.specs.declared.operator.UnaryOperator.{UnaryOperator}
+use Rattle.wgsl_syntax.specs.declared.operator.UnaryOperator.TheVariants as operators
 use Rattle.wgsl_rules.specs.standard.Choice.{Operand, value_of}
 use Rattle.wgsl_rules.specs.types.Spelling.{wgsl_spelling}
 use Rattle.wgsl_rules.specs.types.Types.{WgslType, array, mat, scalar, struct, vec}
-use Rattle.wgsl_standard.specs.Callees.{WgslCallee, a_constructor, can_be_const_expression}
+use Rattle.wgsl_standard.specs.Callees.{WgslCallee, a_constructor, a_unary, can_be_const_expression}
 use Rattle.wgsl_standard.specs.Resolved.{IsCallResolution, resolved_view}
 use Rattle.wgsl_standard.specs.declared.resolved.ResolvedCall.{ResolvedCall}
-use Rattle.wgsl_forms.specs.Array.{typed_array}
+use Rattle.wgsl_forms.specs.Address.{address_answer, indirection_answer}
+use Rattle.wgsl_forms.specs.Array.{IsInferredArray, typed_array}
 use Rattle.wgsl_forms.specs.Expressions.{Expression}
 use Rattle.wgsl_forms.specs.Lists.{function, list_fits}
 use Rattle.wgsl_forms.specs.Memory.{behind}
@@ -24,6 +27,7 @@ use Rattle.wgsl_names.specs.declared.known.Signature.{Signature}
 use Rattle.wgsl_names.specs.declared.known.Typed.{Typed}
 use Rattle.wgsl_names.specs.declared.stage.Stage.{Stage}
 use Rattle.wgsl_names.specs.declared.stage.Stage.TheVariants.{Runtime}
+use Rattle.wgsl_typing.specs.Counts.{is_counted_by_override, unless_counted}
 use Rattle.wgsl_typing.specs.declared.ask.Unresolved.{Unresolved}
 
 -- Operands
@@ -102,6 +106,12 @@ abbrev pub IsMade : Stage → Result WgslType Refusal → Outcome → Type 0
 IsMade stage (Ok t) o = HasType t stage Whole o
 IsMade stage (Err e) o = o ≡ outcomes.Faulty
 
+-- `&x`, `*x`, and what overloads take: `-x`
+abbrev pub IsUnary : UnaryOperator → Typed → Outcome → Type 0
+IsUnary operators.AddressOf x o = IsFormed Runtime (address_answer x.referent (view x.ty)) o
+IsUnary operators.Indirection x o = IsFormed Runtime (indirection_answer (view x.ty)) o
+IsUnary operator x o = IsOverloaded (a_unary operator) None (loaded x ∷ []) x.stage o
+
 -- Calls
 
 -- `max(1, 2)` is known when the module is made, and `subgroupAdd(1)` never before the shader runs.
@@ -129,15 +139,24 @@ vector_name n = cond (nat_eq n 2) (codes "vec2") (cond (nat_eq n 3) (codes "vec3
 abbrev pub matrix_name : ℕ → ℕ → List ℕ
 matrix_name c r = codes "mat" ++ (decimal c ++ (codes "x" ++ decimal r))
 
+-- `array<f32, 2>(x, y)`; what an override counts can't be constructed
+abbrev pub IsArray : Bool → Option ℕ → WgslType → List Part → Outcome → Type 0
+IsArray true n t xs o = o ≡ outcomes.Faulty
+IsArray false n t xs o = IsMade (stage_of xs) (typed_array t n (types_of xs)) o
+
 -- A constructor of a type: `i32(x)`, `vec3<f32>(x)`, `array<f32, 2>(x, y)`, `S(x)`. In types a declared struct stands by its name
 -- and a summary; which values its constructor takes is that of `constructed` by the members of its declaration.
 abbrev pub IsConstructed : WgslType → List Part → Outcome → Type 0
 IsConstructed (scalar s) xs o = IsCall (a_constructor (wgsl_spelling (scalar s))) None xs o
 IsConstructed (vec n t) xs o = IsCall (a_constructor (vector_name n)) (Some t) xs o
 IsConstructed (mat c r t) xs o = IsCall (a_constructor (matrix_name c r)) (Some t) xs o
-IsConstructed (array n t) xs o = IsMade (stage_of xs) (typed_array t n (types_of xs)) o
+IsConstructed (array n t) xs o = IsArray (is_counted_by_override (array n t)) n t xs o
 IsConstructed (struct name ms) xs o = OrFaulty (HasType (struct name ms) (stage_of xs) Whole) o
 IsConstructed t xs o = o ≡ outcomes.Faulty
+
+-- `array(x, y)`, whose elements have the common type of the values
+abbrev pub IsInferred : List Part → Outcome → Type 0
+IsInferred xs o = (answer : Result WgslType Refusal) × IsInferredArray (types_of xs) answer × IsMade (stage_of xs) (unless_counted answer) o
 
 -- Answers of questions to the overloads and the forms
 
@@ -162,6 +181,10 @@ IsMember stage x e = (view x.ty ≡ e.of_type) × (x.stage ≡ stage) × (x.refe
 
 abbrev pub IsType : «Type» → WgslType → Type 0
 IsType ty t = view ty ≡ t
+
+-- the array that is inferred, or why there is none
+abbrev pub IsInferredAs : {E : Type 0} → List Part → Result «Type» E → Type 0
+IsInferredAs xs found = (answer : Result WgslType Refusal) × IsInferredArray (types_of xs) answer × IsAnswer IsType (unless_counted answer) found
 
 -- a message, exactly if there is a refusal
 abbrev pub IsMessage : {A E : Type 0} → Result A Refusal → Option E → Type 0

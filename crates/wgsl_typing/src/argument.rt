@@ -1,4 +1,6 @@
 // Arguments that must be const-expressions, and ranges of arguments (WGSL, "Built-in Functions").
+ghost use Rattle.std.specs.Prelude.{◌≡◌};
+ghost use Rattle.wgsl_typing.specs.Stacks.{stack};
 
 use crate::expressions::Expressions;
 use std::alloc::AllocError;
@@ -7,12 +9,49 @@ use wgsl_core::ty::Type;
 use wgsl_core::ty::form::Form;
 use wgsl_names::fault::Rule;
 use wgsl_names::known::Part;
+use wgsl_names::structs::behind;
 use wgsl_names::value::Value;
 
 impl<'t> Expressions<'t> {
+    /// Whether the values of arguments are in the ranges of these types.
+    pub fn values_fit(&mut self, arguments: &[Part], types: &[Type]) -> Result<bool, AllocError>
+        ensures stack { stack self.new ≡ stack self.old }
+    {
+        let mut all_fit = true;
+        for (argument, ty) in arguments.iter().zip(types) {
+            all_fit = self.argument_value(argument, Some(ty))?.is_some() && all_fit;
+        }
+        Ok(all_fit)
+    }
+
+    /// The values of arguments in these types, or else in the type of bits; None where one that is out of range is told.
+    pub fn values_in(
+        &mut self,
+        arguments: &[Part],
+        types: &[Type],
+        bits: Option<&Type>,
+    ) -> Result<Option<Vec<Option<Value>>>, AllocError>
+        ensures stack { stack self.new ≡ stack self.old }
+    {
+        let mut values = Vec::new(self.alloc);
+        for (argument, ty) in arguments.iter().zip(types) {
+            let ty = match bits {
+                Some(bits) if !is_held(argument, ty) => bits,
+                _ => ty,
+            };
+            match self.argument_value(argument, Some(ty))? {
+                Some(value) => values.push(value)?,
+                None => return Ok(None),
+            }
+        }
+        Ok(Some(values))
+    }
+
     /// Arguments that must be const-expressions, or lie in a range if they are: offsets and components of textures, invocations
     /// of a subgroup or a quad.
-    pub fn check_constant(&mut self, name: &str, arguments: &[Part]) -> Result<(), AllocError> {
+    pub fn check_constant(&mut self, name: &str, arguments: &[Part]) -> Result<(), AllocError>
+        ensures stack { stack self.new ≡ stack self.old }
+    {
         match name {
             "subgroupBroadcast" | "quadBroadcast" => {
                 self.is_const_argument(arguments.get(1))?;
@@ -31,7 +70,9 @@ impl<'t> Expressions<'t> {
         }
     }
 
-    fn is_const_argument(&mut self, argument: Option<&Part>) -> Result<(), AllocError> {
+    fn is_const_argument(&mut self, argument: Option<&Part>) -> Result<(), AllocError>
+        ensures stack { stack self.new ≡ stack self.old }
+    {
         if let Some(argument) = argument {
             if let Some(typed) = argument.typed() {
                 if !typed.stage.is_const() {
@@ -43,7 +84,9 @@ impl<'t> Expressions<'t> {
     }
 
     /// An index of an invocation, or a difference or a mask of such indices: a quad has 4, a subgroup at most 128.
-    fn check_invocation(&mut self, name: &str, argument: Option<&Part>) -> Result<(), AllocError> {
+    fn check_invocation(&mut self, name: &str, argument: Option<&Part>) -> Result<(), AllocError>
+        ensures stack { stack self.new ≡ stack self.old }
+    {
         let (last, message) = if name == "quadBroadcast" {
             (3, "an index in a quad lies from 0 to 3")
         } else {
@@ -58,10 +101,15 @@ impl<'t> Expressions<'t> {
         Ok(())
     }
 
-    fn check_component(&mut self, argument: Option<&Part>) -> Result<(), AllocError> {
+    fn check_component(&mut self, argument: Option<&Part>) -> Result<(), AllocError>
+        ensures stack { stack self.new ≡ stack self.old }
+    {
         let is_component = match argument {
             Some(argument) => match argument.typed() {
-                Some(typed) => matches!(typed.ty, Type::I32 | Type::U32 | Type::AbstractInt),
+                Some(typed) => matches!(
+                    behind(&typed.ty),
+                    Type::I32 | Type::U32 | Type::AbstractInt
+                ),
                 None => false,
             },
             None => false,
@@ -83,12 +131,14 @@ impl<'t> Expressions<'t> {
     }
 
     /// The offset of a texture function is the last argument, if that is a vector of integers and no coordinate.
-    fn check_offset(&mut self, arguments: &[Part]) -> Result<(), AllocError> {
+    fn check_offset(&mut self, arguments: &[Part]) -> Result<(), AllocError>
+        ensures stack { stack self.new ≡ stack self.old }
+    {
         let Some(last) = arguments.last() else {
             return Ok(());
         };
         let is_offset = match last.typed() {
-            Some(typed) => match typed.ty.form() {
+            Some(typed) => match behind(&typed.ty).form() {
                 Form::Vector(_, of) => matches!(of, Type::I32 | Type::AbstractInt),
                 _ => false,
             },
@@ -107,7 +157,9 @@ impl<'t> Expressions<'t> {
     }
 
     /// Ranges that must not be empty, or lie outside of 32 bits.
-    pub fn check_ranges(&mut self, name: &str, arguments: &[Part]) -> Result<(), AllocError> {
+    pub fn check_ranges(&mut self, name: &str, arguments: &[Part]) -> Result<(), AllocError>
+        ensures stack { stack self.new ≡ stack self.old }
+    {
         let first = match name {
             _ if !self.is_evaluated() => return Ok(()),
             "extractBits" => 1,
@@ -124,7 +176,9 @@ impl<'t> Expressions<'t> {
         Ok(())
     }
 
-    fn check_clamp(&mut self, arguments: &[Part]) -> Result<(), AllocError> {
+    fn check_clamp(&mut self, arguments: &[Part]) -> Result<(), AllocError>
+        ensures stack { stack self.new ≡ stack self.old }
+    {
         if let [x, low, high] = arguments {
             if x.value().is_none() && bits(Some(low)) > bits(Some(high)) && high.value().is_some() {
                 self.tell(
@@ -135,6 +189,27 @@ impl<'t> Expressions<'t> {
             }
         }
         Ok(())
+    }
+}
+
+/// The type in which `bitcast` to this type takes an AbstractInt that no `i32` holds: `u32`, if it makes that.
+pub fn bits_in<'c>(name: &str, template: Option<&'c Type>) -> Option<&'c Type> {
+    let ty = template?;
+    let of = match ty.form() {
+        Form::Vector(_, of) => of,
+        _ => ty,
+    };
+    match of {
+        Type::U32 if name == "bitcast" => Some(ty),
+        _ => None,
+    }
+}
+
+/// Whether a type holds the value of an argument, if this is known.
+fn is_held(argument: &Part, ty: &Type) -> bool {
+    match argument.value() {
+        Some(value) => value.converted(ty).is_ok(),
+        None => true,
     }
 }
 

@@ -1,5 +1,5 @@
 // Questions to the forms and the overloads, whose answers are owned.
-ghost use Rattle.std.specs.Prelude.{◌≡◌, [], ◌∷◌, IfOk, None, map, option_map};
+ghost use Rattle.std.specs.Prelude.{◌≡◌, [], ◌∷◌, IfOk, None, Ok, map, option_map};
 ghost use Rattle.wgsl_core.specs.View.{view};
 ghost use Rattle.wgsl_forms.specs.Array.{typed_array};
 ghost use Rattle.wgsl_forms.specs.Lists.{constructed, function, list_fits};
@@ -9,14 +9,16 @@ ghost use Rattle.wgsl_names.specs.Stages.{is_const};
 ghost use Rattle.wgsl_standard.specs.Callees.{a_binary, a_unary, callee_view};
 ghost use Rattle.wgsl_standard.specs.Operands.{operands_view};
 ghost use Rattle.wgsl_standard.specs.Resolved.{IsCallResolution};
-ghost use Rattle.wgsl_typing.specs.Outcomes.{IsAnswer, IsMember, IsMessage, IsType, loaded, operands_of, resolved, shown, typed_parts, types_of};
+ghost use Rattle.wgsl_typing.specs.Counts.{unless_counted};
+ghost use Rattle.wgsl_typing.specs.Outcomes.{IsAnswer, IsInferredAs, IsMember, IsMessage, IsType, loaded, operands_of, resolved, shown, typed_parts, types_of};
 
+use crate::count::has_override_count;
 use crate::expression::shown;
 use std::alloc::{AllocError, Global};
 use wgsl_core::error::Fail;
 use wgsl_core::ty::Type;
 use wgsl_core::ty::form::Form;
-use wgsl_forms::array::construct_array_of;
+use wgsl_forms::array::{construct_array, construct_array_of};
 use wgsl_forms::lists::{Taker, construct_struct, fit};
 use wgsl_forms::member::type_of_member;
 use wgsl_names::known::{Part, Typed};
@@ -86,6 +88,29 @@ pub fn array_of<'p>(
     match construct_array_of(of, count, &operands) {
         Ok(ty) => Ok(Ok(ty.build(alloc)?)),
         Err(refusal) => Ok(Err(format!(in alloc; "{refusal}")?)),
+    }
+}
+
+/// The array that a constructor infers, or why it makes none.
+pub fn inferred_of(alloc: Global, arguments: &[Part]) -> Result<Result<Type, String>, AllocError>
+    ensures { IfOk result (IsInferredAs arguments.now) }
+{
+    let operands = operands_of(alloc, arguments)?;
+    match construct_array(&operands) {
+        Ok(ty) => unless_counted(alloc, ty.build(alloc)?),
+        Err(refusal) => Ok(Err(format!(in alloc; "{refusal}")?)),
+    }
+}
+
+/// The array, or why it isn't constructible: an override counts what its elements have.
+fn unless_counted(alloc: Global, ty: Type) -> Result<Result<Type, String>, AllocError>
+    ensures { IfOk result (IsAnswer IsType (unless_counted (Ok (view ty)))) }
+{
+    match ty.form() {
+        Form::Array(_, of) if has_override_count(of) => {
+            Ok(Err(format!(in alloc; "`{of}` is not constructible")?))
+        }
+        _ => Ok(Ok(ty)),
     }
 }
 

@@ -1,10 +1,15 @@
 // Calls of functions and of constructors (WGSL, "Function Calls", "Value Constructor Built-in Functions").
-ghost use Rattle.std.specs.Prelude.{◌≡◌, IfOk, option_map};
+ghost use Rattle.std.specs.Prelude.{◌≡◌, IfOk, None, Some, option_map, true};
 ghost use Rattle.wgsl_core.specs.View.{view};
-ghost use Rattle.wgsl_standard.specs.Callees.{a_function, callee_view};
+ghost use Rattle.wgsl_standard.specs.Callees.{a_constructor, a_function, callee_view};
 ghost use Rattle.wgsl_typing.specs.Outcomes.{IsCall, IsOfFunction, OrFaulty, stage_of};
+ghost use Rattle.wgsl_typing.specs.Calls.{Argument, ArgumentIf, Calls, IsCallIf, IsCallOf, IsCallOfKnown, IsCallOfPredeclared, Opens, are_typed, head, is_call_on};
+ghost use Rattle.wgsl_typing.specs.Names.{context, known_of, word_in};
+ghost use Rattle.wgsl_typing.specs.Stacks.{stack, with_parts};
+ghost use Rattle.wgsl_typing.specs.Predeclared.{type_called};
 ghost use Rattle.wgsl_typing.specs.Words.{word_at};
 
+use crate::argument::bits_in;
 use crate::ask::{misfit, resolved};
 use crate::constant::call_value;
 use crate::expression::of_call;
@@ -17,7 +22,6 @@ use wgsl_core::ty::Type;
 use wgsl_names::fault::{Place, Rule};
 use wgsl_names::known::{Known, Outcome, Part, Signature};
 use wgsl_names::stage::Stage;
-use wgsl_names::value::Value;
 use wgsl_spelling::predeclared::{LayerName, PredeclaredType};
 use wgsl_standard::callee::{
     Callee, can_be_const_expression, may_be_dropped, needs_subgroups, stages_of,
@@ -32,9 +36,21 @@ pub struct Call<'c> {
     pub arguments: &'c [Part],
 }
 
+/// The tokens of what is called.
+fn head_of(callee: &Called) -> Place
+    ensures { result ≡ head callee.now }
+{
+    match callee {
+        Called::Name(named) => Place::last_of(*named),
+        Called::Listed(place, _) => *place,
+    }
+}
+
 impl<'t> Expressions<'t> {
     /// The `(` of a call.
-    pub fn open_call(&mut self) -> Result<(), AllocError> {
+    pub fn open_call(&mut self) -> Result<(), AllocError>
+        ensures { IfOk result (λ u. Opens (stack self.old) (stack self.new)) }
+    {
         let callee = match self.items.pop() {
             Some(Item::Name(count)) => Called::Name(count),
             Some(Item::Listed(place, listed)) => Called::Listed(place, listed),
@@ -45,45 +61,91 @@ impl<'t> Expressions<'t> {
             None => return Ok(()),
         };
         let arguments = Vec::new(self.alloc);
-        self.push(Item::Call(callee, arguments))
+        self.items.push(Item::Call(callee, arguments))?;
+        Ok(())
     }
 
-    /// An argument of a call.
-    pub fn put_argument(&mut self) -> Result<(), AllocError> {
+    /// Whether a call is on top.
+    fn is_call_on_top(&self) -> bool
+        ensures { result ≡ is_call_on (stack self.now).items }
+    {
+        matches!(self.items.last(), Some(Item::Call(_, _)))
+    }
+
+    /// An argument of a call. One of an attribute stays where it is.
+    pub fn put_argument(&mut self) -> Result<(), AllocError>
+        ensures { IfOk result (λ u. Argument (stack self.old) (stack self.new)) }
+    {
+        let Some(top) = self.items.pop() else {
+            return Ok(());
+        };
+        let is_argument = self.is_call_on_top();
+        self.push(top)?;
+        match is_argument {
+            true => self.put_argument_of_call(),
+            false => Ok(()),
+        }
+    }
+
+    fn put_argument_of_call(&mut self) -> Result<(), AllocError>
+        ensures { IfOk result (λ u. ArgumentIf true (stack self.old) (stack self.new)) }
+    {
         let part = self.take_part()?;
         self.has_value(&part)?;
-        match self.items.last_mut() {
-            Some(Item::Call(_, arguments)) => arguments.push(part)?,
-            _ => self.parts.push(part)?,
+        match self.items.pop() {
+            Some(Item::Call(callee, mut arguments)) => {
+                arguments.push(part)?;
+                self.items.push(Item::Call(callee, arguments))?;
+            }
+            Some(other) => {
+                self.items.push(other)?;
+                self.parts.push(part)?;
+            }
+            None => self.parts.push(part)?,
+        }
+        Ok(())
+    }
+
+    /// Notes arguments that are used.
+    fn note_all(&mut self, arguments: Vec<Part>) -> Result<(), AllocError>
+        ensures { IfOk result (λ u. stack self.new ≡ with_parts arguments.items (stack self.old)) }
+    {
+        for argument in arguments {
+            self.note(argument)?;
         }
         Ok(())
     }
 
     /// The `)` of a call.
-    pub fn put_call(&mut self, count: usize) -> Result<(), AllocError> {
+    pub fn put_call(&mut self, count: usize) -> Result<(), AllocError>
+        ensures { IfOk result (λ u. Calls count (stack self.old) (stack self.new)) }
+    {
         let (callee, arguments) = match self.items.pop() {
             Some(Item::Call(callee, arguments)) => (callee, arguments),
             _ => return Ok(()),
         };
-        let head = match &callee {
-            Called::Name(named) => Place::last_of(*named),
-            Called::Listed(place, _) => *place,
-        };
-        let call = Call {
-            head,
-            arguments: &arguments,
-        };
-        let outcome = match self.are_typed(&arguments) {
-            true => self.called(&callee, &call)?,
-            false => self.check_head(&callee)?,
-        };
-        let may_be_dropped = self.may_be_dropped(&callee);
-        for argument in arguments {
-            self.parts.push(argument)?;
-        }
+        let head = head_of(&callee);
+        let outcome = self.outcome_of_call(
+            &callee,
+            &Call {
+                head,
+                arguments: &arguments,
+            },
+        )?;
         let mut part = Part::of(head.up_to(Place::last_of(count)), outcome);
-        part.may_be_dropped = may_be_dropped;
+        part.may_be_dropped = self.may_be_dropped(&callee);
+        self.note_all(arguments)?;
         self.push(Item::Part(part))
+    }
+
+    fn outcome_of_call(&mut self, callee: &Called, call: &Call<'_>) -> Result<Outcome, AllocError>
+        ensures outcome { IfOk result (IsCallIf (are_typed call.now.arguments.now) (context self.old) callee.now call.now.arguments.now) }
+        ensures stack { stack self.new ≡ stack self.old }
+    {
+        match are_typed(call.arguments) {
+            true => self.called(callee, call),
+            false => self.check_head(callee),
+        }
     }
 
     /// Whether the value of a call may be left unused.
@@ -102,17 +164,11 @@ impl<'t> Expressions<'t> {
         }
     }
 
-    fn are_typed(&self, arguments: &[Part]) -> bool {
-        for argument in arguments {
-            if argument.typed().is_none() {
-                return false;
-            }
-        }
-        true
-    }
-
     /// A call with faulty arguments: says what is wrong with its name.
-    fn check_head(&mut self, callee: &Called) -> Result<Outcome, AllocError> {
+    fn check_head(&mut self, callee: &Called) -> Result<Outcome, AllocError>
+        ensures outcome { IfOk result (λ o. o ≡ Outcome.Faulty) }
+        ensures stack { stack self.new ≡ stack self.old }
+    {
         if let Called::Name(count) = callee {
             if matches!(self.meaning(*count), Meaning::Undeclared) {
                 self.is_called(*count)?;
@@ -122,7 +178,9 @@ impl<'t> Expressions<'t> {
     }
 
     /// Whether WGSL has a function or a type with a name that nothing declares. If it has none, that is told.
-    fn is_called(&mut self, count: usize) -> Result<bool, AllocError> {
+    fn is_called(&mut self, count: usize) -> Result<bool, AllocError>
+        ensures stack { stack self.new ≡ stack self.old }
+    {
         let name = self.word(count);
         let is_called = predeclared_type(name).is_some()
             || unknown_name(Callee::Function(name)).is_none();
@@ -132,7 +190,10 @@ impl<'t> Expressions<'t> {
         Ok(is_called)
     }
 
-    fn called(&mut self, callee: &Called, call: &Call<'_>) -> Result<Outcome, AllocError> {
+    fn called(&mut self, callee: &Called, call: &Call<'_>) -> Result<Outcome, AllocError>
+        ensures outcome { IfOk result (IsCallOf (context self.old) callee.now call.now.arguments.now) }
+        ensures stack { stack self.new ≡ stack self.old }
+    {
         match callee {
             Called::Name(count) => match self.meaning(*count) {
                 Meaning::Local(_) => {
@@ -140,10 +201,7 @@ impl<'t> Expressions<'t> {
                 }
                 Meaning::Unread(_) => self.cyclic(*count),
                 Meaning::Declared(index) => self.call_declared(*count, index, call),
-                Meaning::Undeclared => match self.is_called(*count)? {
-                    true => self.call_predeclared(*count, call),
-                    false => Ok(Outcome::Faulty),
-                },
+                Meaning::Undeclared => self.call_predeclared(*count, call),
             },
             Called::Listed(_, Listed::Type(Some(ty))) => self.construct(ty, call),
             Called::Listed(_, Listed::Function(count, Some(ty))) => {
@@ -161,18 +219,32 @@ impl<'t> Expressions<'t> {
         count: usize,
         index: usize,
         call: &Call<'_>,
-    ) -> Result<Outcome, AllocError> {
+    ) -> Result<Outcome, AllocError>
+        ensures outcome { IfOk result (IsCallOfKnown (word_in (context self.old) count) (known_of self.old.declared.items index) call.now.arguments.now) }
+        ensures stack { stack self.new ≡ stack self.old }
+    {
         let known = self.take_known(index);
-        let outcome = match &known {
-            Some(Known::Type(ty)) => self.construct(ty, call)?,
-            Some(Known::Function(signature)) => {
-                self.call_function(count, index, signature, call)?
-            }
-            Some(Known::Value(_)) => self.faulty(Rule::Name, count, "can't be called")?,
-            Some(Known::Faulty) | None => Outcome::Faulty,
-        };
+        let outcome = self.call_known(count, index, &known, call);
         self.put_known(index, known);
-        Ok(outcome)
+        outcome
+    }
+
+    fn call_known(
+        &mut self,
+        count: usize,
+        index: usize,
+        known: &Option<Known>,
+        call: &Call<'_>,
+    ) -> Result<Outcome, AllocError>
+        ensures outcome { IfOk result (IsCallOfKnown (word_in (context self.old) count) known.now call.now.arguments.now) }
+        ensures stack { stack self.new ≡ stack self.old }
+    {
+        match known {
+            Some(Known::Type(ty)) => self.construct(ty, call),
+            Some(Known::Function(signature)) => self.call_function(count, index, signature, call),
+            Some(Known::Value(_)) => self.faulty(Rule::Name, count, "can't be called"),
+            Some(Known::Faulty) | None => Ok(Outcome::Faulty),
+        }
     }
 
     fn call_function(
@@ -182,7 +254,8 @@ impl<'t> Expressions<'t> {
         signature: &Signature,
         call: &Call<'_>,
     ) -> Result<Outcome, AllocError>
-        ensures { IfOk result (IsOfFunction (word_at self.old.text.now self.old.tokens.now count) signature.now call.now.arguments.now) }
+        ensures answer { IfOk result (IsOfFunction (word_at self.old.text.now self.old.tokens.now count) signature.now call.now.arguments.now) }
+        ensures stack { stack self.new ≡ stack self.old }
     {
         let name = self.word(count);
         if let Some(message) = misfit(self.alloc, name, call.arguments, &signature.parameters)? {
@@ -209,15 +282,6 @@ impl<'t> Expressions<'t> {
         }
     }
 
-    /// Whether the values of arguments are in the ranges of these types.
-    pub fn values_fit(&mut self, arguments: &[Part], types: &[Type]) -> Result<bool, AllocError> {
-        let mut all_fit = true;
-        for (argument, ty) in arguments.iter().zip(types) {
-            all_fit = self.argument_value(argument, Some(ty))?.is_some() && all_fit;
-        }
-        Ok(all_fit)
-    }
-
     /// When a call of these arguments is known.
     pub fn stage_of(&self, arguments: &[Part]) -> Stage
         ensures { result ≡ stage_of arguments.now }
@@ -231,19 +295,32 @@ impl<'t> Expressions<'t> {
         stage
     }
 
-    fn call_predeclared(&mut self, count: usize, call: &Call<'_>) -> Result<Outcome, AllocError> {
+    fn call_predeclared(&mut self, count: usize, call: &Call<'_>) -> Result<Outcome, AllocError>
+        ensures outcome { IfOk result (IsCallOfPredeclared self.old.extensions.f16 (word_in (context self.old) count) (type_called (word_in (context self.old) count)) call.now.arguments.now) }
+        ensures stack { stack self.new ≡ stack self.old }
+    {
         match predeclared_type(self.word(count)) {
             Some(PredeclaredType::Layer(LayerName::Array)) => self.infer_array(call),
-            Some(PredeclaredType::Layer(LayerName::Vec(_) | LayerName::Mat(_, _))) => {
-                let name = self.word(count);
-                self.resolve(Callee::Constructor(name), name, None, call)
-            }
-            Some(_) => match self.type_named(count)? {
+            Some(PredeclaredType::Layer(LayerName::Vec(_))) => self.call_generator(count, call),
+            Some(PredeclaredType::Layer(LayerName::Mat(_, _))) => self.call_generator(count, call),
+            Some(_) => match self.type_predeclared(count)? {
                 Some(ty) => self.construct(&ty, call),
                 None => Ok(Outcome::Faulty),
             },
-            None => self.call_built_in(count, None, call),
+            None => match self.is_called(count)? {
+                true => self.call_built_in(count, None, call),
+                false => Ok(Outcome::Faulty),
+            },
         }
+    }
+
+    /// `vec3(x)`
+    fn call_generator(&mut self, count: usize, call: &Call<'_>) -> Result<Outcome, AllocError>
+        ensures outcome { IfOk result (IsCall (a_constructor (word_in (context self.old) count)) None call.now.arguments.now) }
+        ensures stack { stack self.new ≡ stack self.old }
+    {
+        let name = self.word(count);
+        self.resolve(Callee::Constructor(name), name, None, call)
     }
 
     /// A call of overloads, with the values of its arguments.
@@ -254,7 +331,8 @@ impl<'t> Expressions<'t> {
         template: Option<&Type>,
         call: &Call<'_>,
     ) -> Result<Outcome, AllocError>
-        ensures { IfOk result (IsCall (callee_view callee.entry) (option_map (λ t. view t.now) template.entry) call.now.arguments.now) }
+        ensures answer { IfOk result (IsCall (callee_view callee.entry) (option_map (λ t. view t.now) template.entry) call.now.arguments.now) }
+        ensures stack { stack self.new ≡ stack self.old }
     {
         let stage = match can_be_const_expression(callee) {
             true => self.stage_of(call.arguments),
@@ -266,27 +344,12 @@ impl<'t> Expressions<'t> {
         };
         let skipped = if template.is_some() { 1 } else { 0 };
         let types = found.parameters.get(skipped..).unwrap_or(&[]);
-        let Some(values) = self.values_in(call.arguments, types)? else {
+        let bits = bits_in(name, template);
+        let Some(values) = self.values_in(call.arguments, types, bits)? else {
             return Ok(Outcome::Faulty);
         };
         let value = self.computed(call.head, call_value(name, template, &values))?;
         Ok(of_call(found, stage, value))
-    }
-
-    /// The values of arguments in these types; None where one that is out of range is told.
-    fn values_in(
-        &mut self,
-        arguments: &[Part],
-        types: &[Type],
-    ) -> Result<Option<Vec<Option<Value>>>, AllocError> {
-        let mut values = Vec::new(self.alloc);
-        for (argument, ty) in arguments.iter().zip(types) {
-            match self.argument_value(argument, Some(ty))? {
-                Some(value) => values.push(value)?,
-                None => return Ok(None),
-            }
-        }
-        Ok(Some(values))
     }
 
     fn call_built_in(
@@ -295,8 +358,9 @@ impl<'t> Expressions<'t> {
         template: Option<&Type>,
         call: &Call<'_>,
     ) -> Result<Outcome, AllocError>
-        ensures { IfOk result (OrFaulty (IsCall (a_function (word_at self.old.text.now self.old.tokens.now count))
+        ensures answer { IfOk result (OrFaulty (IsCall (a_function (word_at self.old.text.now self.old.tokens.now count))
             (option_map (λ t. view t.now) template.entry) call.now.arguments.now)) }
+        ensures stack { stack self.new ≡ stack self.old }
     {
         let name = self.word(count);
         if needs_subgroups(name) && !self.extensions.subgroups {
@@ -310,6 +374,18 @@ impl<'t> Expressions<'t> {
         }
         Ok(outcome)
     }
+}
+
+/// Whether each argument has a type.
+fn are_typed(arguments: &[Part]) -> bool
+    ensures { result ≡ are_typed arguments.now }
+{
+    for argument in arguments {
+        if argument.typed().is_none() {
+            return false;
+        }
+    }
+    true
 }
 
 /// The place of the first argument that its parameter doesn't take, or of what is called if their numbers differ.

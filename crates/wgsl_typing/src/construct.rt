@@ -3,17 +3,17 @@ ghost use Rattle.std.specs.Prelude.{◌≡◌, IfOk};
 ghost use Rattle.wgsl_core.specs.View.{view};
 ghost use Rattle.wgsl_forms.specs.Array.{typed_array};
 ghost use Rattle.wgsl_forms.specs.declared.form.Referent.TheVariants.{Whole};
-ghost use Rattle.wgsl_typing.specs.Outcomes.{HasType, IsConstructed, IsFound, IsMade, OrFaulty, stage_of, types_of, vector_name};
+ghost use Rattle.wgsl_typing.specs.Outcomes.{HasType, IsConstructed, IsFound, IsInferred, IsMade, OrFaulty, stage_of, types_of, vector_name};
+ghost use Rattle.wgsl_typing.specs.Stacks.{stack};
 
-use crate::ask::{array_of, members_of, operands_of};
+use crate::ask::{array_of, inferred_of, members_of};
 use crate::call::Call;
+use crate::count::has_override_count;
 use crate::expressions::Expressions;
 use crate::name::typed;
 use std::alloc::AllocError;
 use wgsl_core::ty::Type;
 use wgsl_core::ty::form::Form;
-use wgsl_forms::array::construct_array;
-use wgsl_forms::lists::construct_struct;
 use wgsl_names::fault::{Place, Rule};
 use wgsl_names::known::Outcome;
 use wgsl_names::stage::Stage;
@@ -21,12 +21,11 @@ use wgsl_standard::callee::Callee;
 
 impl<'t> Expressions<'t> {
     /// `array(x, y)`
-    pub fn infer_array(&mut self, call: &Call<'_>) -> Result<Outcome, AllocError> {
-        let operands = operands_of(self.alloc, call.arguments)?;
-        let found = match construct_array(&operands) {
-            Ok(ty) => Ok(ty.build(self.alloc)?),
-            Err(refusal) => Err(format!(in self.alloc; "{refusal}")?),
-        };
+    pub fn infer_array(&mut self, call: &Call<'_>) -> Result<Outcome, AllocError>
+        ensures answer { IfOk result (IsInferred call.now.arguments.now) }
+        ensures stack { stack self.new ≡ stack self.old }
+    {
+        let found = inferred_of(self.alloc, call.arguments)?;
         self.made(call.head, found, self.stage_of(call.arguments))
     }
 
@@ -37,7 +36,8 @@ impl<'t> Expressions<'t> {
         found: Result<Type, String>,
         stage: Stage,
     ) -> Result<Outcome, AllocError>
-        ensures { IfOk result (IsFound stage found) }
+        ensures answer { IfOk result (IsFound stage found) }
+        ensures stack { stack self.new ≡ stack self.old }
     {
         match found {
             Ok(ty) => Ok(typed(ty, stage)),
@@ -50,7 +50,8 @@ impl<'t> Expressions<'t> {
 
     /// `vec3<f32>(x)`, `S(x, y)`
     pub fn construct(&mut self, ty: &Type, call: &Call<'_>) -> Result<Outcome, AllocError>
-        ensures { IfOk result (IsConstructed (view ty.now) call.now.arguments.now) }
+        ensures answer { IfOk result (IsConstructed (view ty.now) call.now.arguments.now) }
+        ensures stack { stack self.new ≡ stack self.old }
     {
         match ty.form() {
             Form::Scalar(scalar) => {
@@ -70,7 +71,9 @@ impl<'t> Expressions<'t> {
                     call,
                 )
             }
-            Form::Array(count, of) => self.construct_array(of, count, call),
+            Form::Array(count, of) if !has_override_count(ty) => {
+                self.construct_array(of, count, call)
+            }
             Form::Struct(_) => self.construct_struct(ty, call),
             _ => {
                 let message = format!(in self.alloc; "a value of `{ty}` can't be constructed")?;
@@ -86,7 +89,8 @@ impl<'t> Expressions<'t> {
         count: Option<usize>,
         call: &Call<'_>,
     ) -> Result<Outcome, AllocError>
-        ensures { IfOk result (IsMade (stage_of call.now.arguments.now) (typed_array (view of.now) count (types_of call.now.arguments.now))) }
+        ensures answer { IfOk result (IsMade (stage_of call.now.arguments.now) (typed_array (view of.now) count (types_of call.now.arguments.now))) }
+        ensures stack { stack self.new ≡ stack self.old }
     {
         for argument in call.arguments {
             self.argument_value(argument, Some(of))?;
@@ -96,7 +100,8 @@ impl<'t> Expressions<'t> {
     }
 
     fn construct_struct(&mut self, ty: &Type, call: &Call<'_>) -> Result<Outcome, AllocError>
-        ensures { IfOk result (OrFaulty (HasType (view ty.now) (stage_of call.now.arguments.now) Whole)) }
+        ensures answer { IfOk result (OrFaulty (HasType (view ty.now) (stage_of call.now.arguments.now) Whole)) }
+        ensures stack { stack self.new ≡ stack self.old }
     {
         let found = match self.structs.declared(ty) {
             Some(declared) if !call.arguments.is_empty() => {

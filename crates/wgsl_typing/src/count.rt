@@ -1,26 +1,46 @@
 // Arrays, and how many elements they have (WGSL, "Array Types").
+ghost use Rattle.std.specs.Prelude.{◌≡◌, ◌≤◌, IfOk, None, Some, option_map, reverse};
+ghost use Rattle.wgsl_constants.specs.Conversions.{number};
+ghost use Rattle.wgsl_core.specs.View.{view};
+ghost use Rattle.wgsl_forms.specs.Index.{is_index};
+ghost use Rattle.wgsl_names.specs.Known.{typed_in};
+ghost use Rattle.wgsl_rules.specs.types.Types.{array};
+ghost use Rattle.wgsl_typing.specs.Counts.{IsCountOf, const_count, count_of, integer_in, is_counted_by_override};
+ghost use Rattle.wgsl_typing.specs.Names.{context};
+ghost use Rattle.wgsl_typing.specs.Parameters.{IsCount};
+ghost use Rattle.wgsl_typing.specs.Stacks.{KeepsItems, stack};
+ghost use Rattle.wgsl_typing.specs.Templates.{IsArrayListed, IsLimited, is_element, may_be_counted};
 
 use crate::expressions::Expressions;
 use crate::item::Item;
 use crate::list::OVERRIDE_COUNT;
+use crate::parameter::name_of;
 use std::alloc::{AllocError, Global};
+use wgsl_constants::constant::Constant;
 use wgsl_constants::integer::Integer;
 use wgsl_core::ty::Type;
 use wgsl_core::ty::form::Form;
 use wgsl_forms::variable::variable;
 use wgsl_names::fault::{Place, Rule};
-use wgsl_names::known::Part;
+use wgsl_names::known::{Part, Typed};
 use wgsl_names::stage::Stage;
 use wgsl_names::structs::size_and_align;
+use wgsl_names::value::Value;
 use wgsl_syntax::address::AddressSpace;
+use wgsl_syntax::scalar::Scalar;
+
+/// What is wrong with an array whose size is no `u32`.
+const TOO_LARGE: &str = "has more than 4294967295 bytes";
 
 impl<'t> Expressions<'t> {
     /// The array that a name with its list stands for; None if it has a fault, which is told.
-    pub fn array(
-        &mut self,
-        named: usize,
-        list: &mut Vec<Item>,
-    ) -> Result<Option<Type>, AllocError> {
+    pub fn array(&mut self, named: usize, list: &mut Vec<Item>) -> Result<Option<Type>, AllocError>
+        ensures answer { IfOk result (λ ty. IsArrayListed (context self.old) (reverse list.old.items) (option_map view ty)) }
+        ensures stack { IfOk result (λ ty. KeepsItems (stack self.old) (stack self.new)) }
+    {
+        if !self.has_length(named, list, 1, 2)? {
+            return Ok(None);
+        }
         let Some(of) = self.next_type(list)? else {
             return Ok(None);
         };
@@ -29,69 +49,97 @@ impl<'t> Expressions<'t> {
             self.fault(Rule::Template, Place::last_of(named), message)?;
             return Ok(None);
         }
-        let count = match list.is_empty() {
-            false => match self.next_count(list)? {
-                Some(count) => Some(count),
-                None => return Ok(None),
-            },
-            true => None,
+        let Some(item) = list.pop() else {
+            return self.array_of(named, None, of);
         };
+        match self.count_in(named, item)? {
+            Some(count) => self.array_of(named, Some(count), of),
+            None => Ok(None),
+        }
+    }
+
+    /// The array, if it isn't too large or too deep, which is told.
+    fn array_of(
+        &mut self,
+        named: usize,
+        count: Option<usize>,
+        of: Type,
+    ) -> Result<Option<Type>, AllocError>
+        ensures answer { IfOk result (λ found. IsLimited (Some (array count (view of))) (option_map view found)) }
+        ensures stack { stack self.new ≡ stack self.old }
+    {
         let ty = Type::array(self.alloc, count, of)?;
         if is_too_large(&ty) {
-            return self.nothing(Rule::Template, named, "has more than 4294967295 bytes");
+            return self.nothing(Rule::Template, named, TOO_LARGE);
         }
-        Ok(Some(ty))
+        self.limited(named, ty)
     }
 
     /// The count that an item says: a const-expression, or an override.
-    fn next_count(&mut self, list: &mut Vec<Item>) -> Result<Option<usize>, AllocError> {
-        let name = match list.last() {
-            Some(Item::Name(count)) => Some(*count),
-            _ => None,
-        };
-        let part = self.next_part(list)?;
-        let count = self.count_of(name, &part)?;
-        self.parts.push(part)?;
+    fn count_in(&mut self, named: usize, item: Item) -> Result<Option<usize>, AllocError>
+        ensures answer { IfOk result (IsCount (context self.old) item) }
+        ensures stack { IfOk result (λ count. KeepsItems (stack self.old) (stack self.new)) }
+    {
+        let name = name_of(&item);
+        let part = self.part_of_item(item)?;
+        let count = self.count_of(named, name, &part)?;
+        self.note(part)?;
         Ok(count)
     }
 
-    fn count_of(&mut self, name: Option<usize>, part: &Part) -> Result<Option<usize>, AllocError> {
+    fn count_of(
+        &mut self,
+        named: usize,
+        name: Option<usize>,
+        part: &Part,
+    ) -> Result<Option<usize>, AllocError>
+        ensures answer { IfOk result (IsCountOf (typed_in part.now.outcome)) }
+        ensures stack { stack self.new ≡ stack self.old }
+    {
         let Some(typed) = part.typed() else {
+            self.has_value(part)?;
             return Ok(None);
         };
-        let is_integer = matches!(typed.ty, Type::AbstractInt | Type::I32 | Type::U32);
+        if !is_count(&typed.ty) {
+            return self.no_count(part.place);
+        }
         match typed.stage {
-            Stage::Override if is_integer => Ok(Some(self.count_by_override(name, part.place)?)),
-            Stage::Const if is_integer => match typed.value {
-                Some(value) => match value.integer() {
-                    Some(integer) => self.checked_count(part.place, integer),
-                    None => Ok(None),
-                },
-                None => Ok(None),
-            },
-            _ => {
-                self.tell(
-                    Rule::Template,
-                    part.place,
-                    "a count is an integer that is known before the shader runs",
-                )?;
-                Ok(None)
-            }
+            Stage::Const => self.const_count(named, part.place, typed),
+            Stage::Override => Ok(Some(self.count_by_override(name, part.place)?)),
+            Stage::Runtime => self.no_count(part.place),
         }
     }
 
-    fn checked_count(
+    fn no_count(&mut self, place: Place) -> Result<Option<usize>, AllocError>
+        ensures answer { IfOk result (λ count. count ≡ None) }
+        ensures stack { stack self.new ≡ stack self.old }
+    {
+        let message = "a count is an integer that is known before the shader runs";
+        self.tell(Rule::Template, place, message)?;
+        Ok(None)
+    }
+
+    /// The count that a constant is, if an array may have that number of elements.
+    fn const_count(
         &mut self,
+        named: usize,
         place: Place,
-        integer: Integer,
-    ) -> Result<Option<usize>, AllocError> {
-        match usize::try_from(integer.value()) {
-            Ok(count) if count > 0 => Ok(Some(count.min(OVERRIDE_COUNT - 1))),
-            _ => {
-                self.tell(Rule::Template, place, "a count must be positive")?;
-                Ok(None)
+        typed: &Typed,
+    ) -> Result<Option<usize>, AllocError>
+        ensures answer { IfOk result (λ count. count ≡ const_count (integer_in typed.now.value)) }
+        ensures stack { stack self.new ≡ stack self.old }
+    {
+        let Some(integer) = integer_in(typed.value) else {
+            return Ok(None);
+        };
+        let count = count_of(integer.value());
+        if count.is_none() {
+            if integer.value() > 0 {
+                return self.nothing(Rule::Template, named, TOO_LARGE);
             }
+            self.tell(Rule::Template, place, "a count must be positive")?;
         }
+        Ok(count)
     }
 
     /// A message in which counts that overrides give are as they are written.
@@ -103,24 +151,50 @@ impl<'t> Expressions<'t> {
     }
 
     /// The count that stands for an override expression. Two names of one override are the same count.
-    fn count_by_override(
-        &mut self,
-        name: Option<usize>,
-        place: Place,
-    ) -> Result<usize, AllocError> {
+    fn count_by_override(&mut self, name: Option<usize>, place: Place) -> Result<usize, AllocError>
+        ensures answer { IfOk result (λ count. OVERRIDE_COUNT ≤ count) }
+        ensures stack { stack self.new ≡ stack self.old }
+    {
         let text = self.text_of(place);
         for (index, other) in self.override_counts.iter().enumerate() {
             if name.is_some() && is_same(text, other.as_str()) {
                 return Ok(OVERRIDE_COUNT.saturating_add(index));
             }
         }
+        let count = OVERRIDE_COUNT.saturating_add(self.override_counts.len());
         self.override_counts
             .push(String::from_str(self.alloc, text)?)?;
-        Ok(
-            OVERRIDE_COUNT
-                .saturating_add(self.override_counts.len())
-                .saturating_sub(1),
-        )
+        Ok(count)
+    }
+}
+
+/// The integer that a value is.
+fn integer_in(value: Option<Value>) -> Option<Integer>
+    ensures { result ≡ integer_in value }
+{
+    match value {
+        Some(Value::One(Constant::Integer(integer))) => Some(integer),
+        _ => None,
+    }
+}
+
+/// The integer as a count: it is positive, and less than those that stand for overrides.
+fn count_of(value: i64) -> Option<usize>
+    ensures { result ≡ count_of value }
+{
+    match usize::try_from(value) {
+        Ok(count) if 0 < count && count < OVERRIDE_COUNT => Some(count),
+        _ => None,
+    }
+}
+
+/// Whether a count may have the type.
+fn is_count(ty: &Type) -> bool
+    ensures { result ≡ is_index (view ty.now) }
+{
+    match ty.form() {
+        Form::Scalar(scalar) => matches!(scalar, Scalar::AbstractInt | Scalar::I32 | Scalar::U32),
+        _ => false,
     }
 }
 
@@ -151,8 +225,20 @@ fn written_count<'w>(piece: &'w str, counts: &'w [String]) -> Option<(&'w str, &
 }
 
 /// Whether the type can be the type of an element or of a member that isn't the last: what a variable of `workgroup` holds.
-pub fn is_element(ty: &Type) -> bool {
+pub fn is_element(ty: &Type) -> bool
+    ensures { result ≡ is_element (view ty.now) }
+{
     variable(AddressSpace::Workgroup, None, ty).is_ok() && !has_override_count(ty)
+}
+
+/// Whether a pointer to the address space may point to the type, by what overrides count in it.
+pub fn may_be_counted(space: AddressSpace, ty: &Type) -> bool
+    ensures { result ≡ may_be_counted space (view ty.now) }
+{
+    match space {
+        AddressSpace::Workgroup => true,
+        _ => !has_override_count(ty),
+    }
 }
 
 /// Whether an array with a known count has more bytes than a type may have.
@@ -168,7 +254,9 @@ pub fn is_too_large(ty: &Type) -> bool {
 }
 
 /// Whether an override counts the elements of this array.
-pub fn has_override_count(ty: &Type) -> bool {
+pub fn has_override_count(ty: &Type) -> bool
+    ensures { result ≡ is_counted_by_override (view ty.now) }
+{
     match ty.form() {
         Form::Array(Some(count), _) => count >= OVERRIDE_COUNT,
         _ => false,

@@ -1,8 +1,11 @@
 // What is declared with a type or a value (WGSL, "Value Declarations", "Variable Declarations").
 ghost use Rattle.std.specs.Prelude.{◌≡◌, IfOk, option_map};
 ghost use Rattle.wgsl_core.specs.View.{view};
-ghost use Rattle.wgsl_typing.specs.Declarations.{IsDeclared, IsHeld, IsInitialized, IsVariable, initializing, is_condition, stage_of_declaration, type_behind, value_of_declaration, value_of_variable};
+ghost use Rattle.wgsl_typing.specs.Declarations.{IsDeclared, IsHeld, IsInitialized, IsVariable, declared_on, initializing, is_condition, stage_of_declaration, type_behind, value_of_declaration, value_of_variable};
 ghost use Rattle.wgsl_forms.specs.Views.{given};
+ghost use Rattle.wgsl_typing.specs.Operators.{Initializer};
+ghost use Rattle.wgsl_typing.specs.Stacks.{below, below_declared, below_initializer, below_space, initializer_on, name_on, space_on, stack, with_items};
+ghost use Rattle.wgsl_typing.specs.Types.{DeclaredType};
 
 use crate::count::has_override_count;
 use crate::expression::shown;
@@ -46,38 +49,56 @@ impl Declared {
 
 impl<'t> Expressions<'t> {
     /// `: T`
-    pub fn put_declared_type(&mut self) -> Result<(), AllocError> {
+    pub fn put_declared_type(&mut self) -> Result<(), AllocError>
+        ensures { IfOk result (λ u. DeclaredType (stack self.old) (stack self.new)) }
+    {
         let (_, ty) = self.take_type()?;
         self.push(Item::DeclaredType(ty))
     }
 
     /// `= x` of a `var` or an `override`
-    pub fn put_initializer(&mut self) -> Result<(), AllocError> {
+    pub fn put_initializer(&mut self) -> Result<(), AllocError>
+        ensures { IfOk result (λ u. Initializer (stack self.old) (stack self.new)) }
+    {
         let part = self.take_part()?;
         self.push(Item::Part(part))
     }
 
     /// The type behind the name, if there is one.
-    pub fn take_declared(&mut self) -> Declared {
-        if !matches!(self.items.last(), Some(Item::DeclaredType(_))) {
-            return Declared::No;
-        }
+    pub fn take_declared(&mut self) -> Result<Declared, AllocError>
+        ensures declared { IfOk result (λ d. d ≡ declared_on (stack self.old).items) }
+        ensures rest { IfOk result (λ d. stack self.new ≡ with_items (below_declared (stack self.old).items) (stack self.old)) }
+    {
         match self.items.pop() {
-            Some(Item::DeclaredType(Some(ty))) => Declared::Type(ty),
-            _ => Declared::Faulty,
+            Some(Item::DeclaredType(Some(ty))) => Ok(Declared::Type(ty)),
+            Some(Item::DeclaredType(None)) => Ok(Declared::Faulty),
+            Some(other) => {
+                self.items.push(other)?;
+                Ok(Declared::No)
+            }
+            None => Ok(Declared::No),
         }
     }
 
     /// The name of a declaration, by the number of tokens up to it.
-    pub fn take_name(&mut self) -> usize {
-        match self.items.pop() {
-            Some(Item::Name(count)) => count,
-            _ => 0,
-        }
+    pub fn take_name(&mut self) -> usize
+        ensures name { result ≡ name_on (stack self.old).items }
+        ensures rest { stack self.new ≡ with_items (below (stack self.old).items) (stack self.old) }
+    {
+        let Some(top) = self.items.pop() else {
+            return 0;
+        };
+        let Item::Name(count) = top else {
+            return 0;
+        };
+        count
     }
 
     /// The value of a variable, if it has one.
-    pub fn take_initializer(&mut self) -> Result<Option<Part>, AllocError> {
+    pub fn take_initializer(&mut self) -> Result<Option<Part>, AllocError>
+        ensures part { IfOk result (λ x. x ≡ initializer_on (stack self.old).items) }
+        ensures rest { IfOk result (λ x. stack self.new ≡ with_items (below_initializer (stack self.old).items) (stack self.old)) }
+    {
         match self.items.last() {
             Some(Item::Part(_)) => Ok(Some(self.take_part()?)),
             _ => Ok(None),
@@ -85,7 +106,10 @@ impl<'t> Expressions<'t> {
     }
 
     /// The template list of a variable, if it has one; `Some(None)` if that has a fault.
-    pub fn take_space(&mut self) -> Option<Option<(AddressSpace, Option<AccessMode>)>> {
+    pub fn take_space(&mut self) -> Option<Option<(AddressSpace, Option<AccessMode>)>>
+        ensures space { result ≡ space_on (stack self.old).items }
+        ensures rest { stack self.new ≡ with_items (below_space (stack self.old).items) (stack self.old) }
+    {
         let Some(Item::Space(space)) = self.items.last() else {
             return None;
         };
@@ -101,7 +125,8 @@ impl<'t> Expressions<'t> {
         part: &Part,
         declared: &Declared,
     ) -> Result<Option<Typed>, AllocError>
-        ensures { IfOk result (IsDeclared declaration declared.now part.now.outcome) }
+        ensures answer { IfOk result (IsDeclared declaration declared.now part.now.outcome) }
+        ensures stack { stack self.new ≡ stack self.old }
     {
         let Some(value) = self.initializing(part, declared)? else {
             return Ok(None);
@@ -110,7 +135,10 @@ impl<'t> Expressions<'t> {
         match declare(declaration, &operand, declared.ty()) {
             Ok(ty) => {
                 let ty = ty.build(self.alloc)?;
-                self.holding(part, stage_of(declaration), ty)
+                match self.may_be_loaded(part.place, &ty)? {
+                    true => self.holding(part, stage_of(declaration), ty),
+                    false => Ok(None),
+                }
             }
             Err(Refusal::NotConst) if matches!(declaration, Declaration::Override) => {
                 self.tell(Rule::Type, part.place, NOT_EARLY)?;
@@ -129,7 +157,8 @@ impl<'t> Expressions<'t> {
         part: &'p Part,
         declared: &Declared,
     ) -> Result<Option<&'p Typed>, AllocError>
-        ensures { IfOk result (λ v. option_map (λ v. v.now) v ≡ initializing declared.now part.now.outcome) }
+        ensures answer { IfOk result (λ v. option_map (λ v. v.now) v ≡ initializing declared.now part.now.outcome) }
+        ensures stack { stack self.new ≡ stack self.old }
     {
         if !self.has_value(part)? || matches!(declared, Declared::Faulty) {
             return Ok(None);
@@ -139,7 +168,8 @@ impl<'t> Expressions<'t> {
 
     /// What is declared with that type, which holds the value.
     fn holding(&mut self, part: &Part, stage: Stage, ty: Type) -> Result<Option<Typed>, AllocError>
-        ensures { IfOk result (IsHeld stage (Ok (view ty))) }
+        ensures answer { IfOk result (IsHeld stage (Ok (view ty))) }
+        ensures stack { stack self.new ≡ stack self.old }
     {
         let Some(value) = self.argument_value(part, Some(behind(&ty)))? else {
             return Ok(None);
@@ -149,8 +179,22 @@ impl<'t> Expressions<'t> {
         Ok(Some(typed))
     }
 
+    /// An array that an override counts can't be constructed, so it isn't loaded.
+    pub fn may_be_loaded(&mut self, place: Place, ty: &Type) -> Result<bool, AllocError>
+        ensures stack { stack self.new ≡ stack self.old }
+    {
+        if !has_override_count(ty) {
+            return Ok(true);
+        }
+        let message = format!(in self.alloc; "`{ty}` is not constructible")?;
+        self.fault(Rule::Type, place, message)?;
+        Ok(false)
+    }
+
     /// What a variable outside of buffers may hold.
-    pub fn may_be_held(&mut self, named: usize, reference: &Type) -> Result<bool, AllocError> {
+    pub fn may_be_held(&mut self, named: usize, reference: &Type) -> Result<bool, AllocError>
+        ensures stack { stack self.new ≡ stack self.old }
+    {
         let held = behind(reference);
         if has_override_count(held) {
             return self.no(
@@ -163,7 +207,9 @@ impl<'t> Expressions<'t> {
     }
 
     /// Arrays outside of buffers have at most 65,535 elements (WGSL, "Limits").
-    pub fn is_short(&mut self, named: usize, held: &Type) -> Result<bool, AllocError> {
+    pub fn is_short(&mut self, named: usize, held: &Type) -> Result<bool, AllocError>
+        ensures stack { stack self.new ≡ stack self.old }
+    {
         if self.structs.has_long_array(held) && !has_override_count(held) {
             return self.no(
                 Rule::Limit,
@@ -183,7 +229,8 @@ impl<'t> Expressions<'t> {
         part: Option<&Part>,
         declared: &Declared,
     ) -> Result<Option<Typed>, AllocError>
-        ensures { IfOk result (IsVariable space access (option_map (λ p. p.now.outcome) part.entry) declared.now) }
+        ensures answer { IfOk result (IsVariable space access (option_map (λ p. p.now.outcome) part.entry) declared.now) }
+        ensures stack { stack self.new ≡ stack self.old }
     {
         match (part, declared) {
             (Some(part), _) => self.initialized(space, access, part, declared),
@@ -205,7 +252,8 @@ impl<'t> Expressions<'t> {
         part: &Part,
         declared: &Declared,
     ) -> Result<Option<Typed>, AllocError>
-        ensures { IfOk result (IsInitialized space access declared.now part.now.outcome) }
+        ensures answer { IfOk result (IsInitialized space access declared.now part.now.outcome) }
+        ensures stack { stack self.new ≡ stack self.old }
     {
         let Some(value) = self.initializing(part, declared)? else {
             return Ok(None);
@@ -224,7 +272,8 @@ impl<'t> Expressions<'t> {
 
     /// Whether a condition is a `bool`. If it isn't, that is told.
     pub fn is_condition(&mut self, part: &Part) -> Result<bool, AllocError>
-        ensures { IfOk result (λ is. is ≡ is_condition part.now.outcome) }
+        ensures answer { IfOk result (λ is. is ≡ is_condition part.now.outcome) }
+        ensures stack { stack self.new ≡ stack self.old }
     {
         if !self.has_value(part)? {
             return Ok(false);

@@ -1,15 +1,19 @@
 // Expressions without calls (WGSL, "Expressions").
-ghost use Rattle.std.specs.Prelude.{◌≡◌, [], ◌∷◌, IfOk, None, is_some, option_map};
+ghost use Rattle.std.specs.Prelude.{◌≡◌, [], ◌∷◌, IfOk, None, is_some, option_map, true};
 ghost use Rattle.wgsl_core.specs.View.{view};
 ghost use Rattle.wgsl_forms.specs.Views.{answer_view, form_view, given};
 ghost use Rattle.wgsl_names.specs.Known.{typed_in};
-ghost use Rattle.wgsl_names.specs.Stages.{later};
-ghost use Rattle.wgsl_standard.specs.Callees.{a_binary, a_unary};
+ghost use Rattle.wgsl_spelling.specs.Operators.{unary_of};
+ghost use Rattle.wgsl_standard.specs.Callees.{a_unary};
 ghost use Rattle.wgsl_standard.specs.Resolved.{resolved_view};
-ghost use Rattle.wgsl_typing.specs.Outcomes.{HasResult, HasType, IsFormed, IsOverloaded, loaded, or_faulty, resolved, shown};
+ghost use Rattle.wgsl_typing.specs.Names.{HasValue};
+ghost use Rattle.wgsl_typing.specs.Outcomes.{HasResult, HasType, IsFormed, IsOverloaded, IsUnary, loaded, or_faulty, resolved, shown};
+ghost use Rattle.wgsl_typing.specs.Operators.{AnOperator, Brackets, IsUnaryOf, Unary, is_short_circuit};
+ghost use Rattle.wgsl_typing.specs.Stacks.{below, part_of, sign_on, stack, with_item, with_items};
+ghost use Rattle.wgsl_typing.specs.Words.{kind_at};
 
-use crate::ask::{Resolved, Unresolved, resolved_binary, resolved_unary};
-use crate::constant::{Computed, binary_value, decided, unary_value, wrong_right};
+use crate::ask::{Resolved, Unresolved, resolved_unary};
+use crate::constant::{Computed, decided, unary_value};
 use crate::expressions::Expressions;
 use crate::item::Item;
 use std::alloc::AllocError;
@@ -25,28 +29,46 @@ use wgsl_names::value::Value;
 use wgsl_reader::kind::Kind;
 use wgsl_spelling::operator::{binary_of, unary_of};
 use wgsl_standard::answer::NoOverload;
-use wgsl_standard::callee::Callee;
 use wgsl_standard::operand::Operand;
 use wgsl_standard::resolved::ResolvedCall;
-use wgsl_syntax::operator::{BinaryOperator, UnaryOperator};
+use wgsl_syntax::operator::UnaryOperator;
 
 impl<'t> Expressions<'t> {
     /// Puts an expression on top of the items.
-    pub fn put(&mut self, place: Place, outcome: Outcome) -> Result<(), AllocError> {
+    pub fn put(&mut self, place: Place, outcome: Outcome) -> Result<(), AllocError>
+        ensures { IfOk result (λ u. stack self.new ≡ with_item (Item.Part (part_of place outcome)) (stack self.old)) }
+    {
         self.push(Item::Part(Part::of(place, outcome)))
     }
 
     /// An operator. What stands behind `false &&` and `true ||` isn't evaluated.
-    pub fn put_operator(&mut self, count: usize) -> Result<(), AllocError> {
+    pub fn put_operator(&mut self, count: usize) -> Result<(), AllocError>
+        ensures { IfOk result (λ u. AnOperator (is_short_circuit (kind_at self.old.tokens.now count)) count (stack self.old) (stack self.new)) }
+    {
         let kind = self.token_before(count).kind;
-        if self.is_evaluated() && matches!(kind, Kind::AndAnd | Kind::OrOr) {
-            let left = self.take_part()?;
-            if is_decided(kind, &left) {
-                self.unevaluated = Some(count);
-            }
-            self.push(Item::Part(left))?;
+        if is_short_circuit(kind) {
+            return self.put_short_circuit(kind, count);
         }
         self.push(Item::Sign(count))
+    }
+
+    /// `&&` or `||`, of this kind: its left operand is taken first.
+    fn put_short_circuit(&mut self, kind: Kind, count: usize) -> Result<(), AllocError>
+        ensures { IfOk result (λ u. AnOperator true count (stack self.old) (stack self.new)) }
+    {
+        let left = self.take_part()?;
+        self.leave_out_behind(kind, count, &left);
+        self.push(Item::Part(left))?;
+        self.push(Item::Sign(count))
+    }
+
+    /// What stands behind an operator isn't evaluated if its left operand decides.
+    fn leave_out_behind(&mut self, kind: Kind, count: usize, left: &Part)
+        ensures stack { stack self.new ≡ stack self.old }
+    {
+        if self.is_evaluated() && may_decide(kind, left) {
+            self.unevaluated = Some(count);
+        }
     }
 
     /// Whether what is read is evaluated, if its value is known.
@@ -55,15 +77,23 @@ impl<'t> Expressions<'t> {
     }
 
     /// Takes the operator or the `[` on top, by the number of tokens up to it.
-    pub fn take_sign(&mut self) -> usize {
-        match self.items.pop() {
-            Some(Item::Sign(count)) => count,
-            _ => 0,
-        }
+    pub fn take_sign(&mut self) -> usize
+        ensures sign { result ≡ sign_on (stack self.old).items }
+        ensures rest { stack self.new ≡ with_items (below (stack self.old).items) (stack self.old) }
+    {
+        let Some(top) = self.items.pop() else {
+            return 0;
+        };
+        let Item::Sign(count) = top else {
+            return 0;
+        };
+        count
     }
 
     /// `(x)`
-    pub fn put_brackets(&mut self, count: usize) -> Result<(), AllocError> {
+    pub fn put_brackets(&mut self, count: usize) -> Result<(), AllocError>
+        ensures { IfOk result (λ u. Brackets count (stack self.old) (stack self.new)) }
+    {
         let mut part = self.take_part()?;
         part.place = Place {
             from: part.place.from.saturating_sub(1),
@@ -74,7 +104,8 @@ impl<'t> Expressions<'t> {
 
     /// Whether the operand has a type. Says so if it is a call without a value.
     pub fn has_value(&mut self, part: &Part) -> Result<bool, AllocError>
-        ensures { IfOk result (λ has. has ≡ is_some (typed_in part.now.outcome)) }
+        ensures answer { IfOk result (λ has. has ≡ is_some (typed_in part.now.outcome)) }
+        ensures stack { stack self.new ≡ stack self.old }
     {
         match part.outcome {
             Outcome::Typed(_) => Ok(true),
@@ -87,20 +118,31 @@ impl<'t> Expressions<'t> {
     }
 
     /// `-x`
-    pub fn put_unary(&mut self) -> Result<(), AllocError> {
+    pub fn put_unary(&mut self) -> Result<(), AllocError>
+        ensures { IfOk result (λ u. Unary (stack self.old) (stack self.new)) }
+    {
         let part = self.take_part()?;
         let count = self.take_sign();
+        let outcome = self.outcome_of_unary(count, &part)?;
         let place = Place::last_of(count).up_to(part.place);
-        let outcome = match (
-            self.has_value(&part)?,
-            part.typed(),
-            unary_of(self.token_before(count).kind),
-        ) {
-            (true, Some(x), Some(operator)) => self.unary(operator, count, x)?,
-            _ => Outcome::Faulty,
-        };
-        self.parts.push(part)?;
+        self.note(part)?;
         self.put(place, outcome)
+    }
+
+    /// What the operator that is the last of that many tokens makes of its operand.
+    fn outcome_of_unary(&mut self, count: usize, part: &Part) -> Result<Outcome, AllocError>
+        ensures outcome { IfOk result (IsUnaryOf (unary_of (kind_at self.old.tokens.now count)) (typed_in part.now.outcome)) }
+        ensures stack { stack self.new ≡ stack self.old }
+    {
+        let operator = unary_of(self.token_before(count).kind);
+        self.has_value(part)?;
+        let Some(x) = part.typed() else {
+            return Ok(Outcome::Faulty);
+        };
+        let Some(operator) = operator else {
+            return Ok(Outcome::Faulty);
+        };
+        self.unary(operator, count, x)
     }
 
     fn unary(
@@ -108,13 +150,23 @@ impl<'t> Expressions<'t> {
         operator: UnaryOperator,
         count: usize,
         x: &Typed,
-    ) -> Result<Outcome, AllocError> {
-        let form = match operator {
-            UnaryOperator::AddressOf => address_of(&x.operand(), x.referent),
-            UnaryOperator::Indirection => indirection(&x.operand()),
-            _ => return self.unary_overloaded(operator, count, x),
-        };
-        self.of_form(Place::last_of(count), form, Stage::Runtime)
+    ) -> Result<Outcome, AllocError>
+        ensures answer { IfOk result (IsUnary operator x.now) }
+        ensures stack { stack self.new ≡ stack self.old }
+    {
+        match operator {
+            UnaryOperator::AddressOf => {
+                let form = address_of(&x.operand(), x.referent);
+                self.of_form(Place::last_of(count), form, Stage::Runtime)
+            }
+            UnaryOperator::Indirection => {
+                let form = indirection(&x.operand());
+                self.of_form(Place::last_of(count), form, Stage::Runtime)
+            }
+            UnaryOperator::LogicalNegation => self.unary_overloaded(operator, count, x),
+            UnaryOperator::Negation => self.unary_overloaded(operator, count, x),
+            UnaryOperator::BitwiseComplement => self.unary_overloaded(operator, count, x),
+        }
     }
 
     /// What a form makes; faulty if it is refused, which is told.
@@ -124,7 +176,8 @@ impl<'t> Expressions<'t> {
         form: Result<FormOf<'_>, Refusal<'_>>,
         stage: Stage,
     ) -> Result<Outcome, AllocError>
-        ensures { IfOk result (IsFormed stage (answer_view form_view form.entry)) }
+        ensures answer { IfOk result (IsFormed stage (answer_view form_view form.entry)) }
+        ensures stack { stack self.new ≡ stack self.old }
     {
         match form {
             Ok(form) => {
@@ -145,7 +198,8 @@ impl<'t> Expressions<'t> {
         place: Place,
         outcome: Result<Outcome, String>,
     ) -> Result<Outcome, AllocError>
-        ensures { IfOk result (λ o. o ≡ or_faulty outcome) }
+        ensures answer { IfOk result (λ o. o ≡ or_faulty outcome) }
+        ensures stack { stack self.new ≡ stack self.old }
     {
         match outcome {
             Ok(outcome) => Ok(outcome),
@@ -162,7 +216,8 @@ impl<'t> Expressions<'t> {
         count: usize,
         x: &Typed,
     ) -> Result<Outcome, AllocError>
-        ensures { IfOk result (IsOverloaded (a_unary operator) None (loaded x.now ∷ []) x.now.stage) }
+        ensures answer { IfOk result (IsOverloaded (a_unary operator) None (loaded x.now ∷ []) x.now.stage) }
+        ensures stack { stack self.new ≡ stack self.old }
     {
         let place = Place::last_of(count);
         let found = resolved_unary(self.alloc, operator, x)?;
@@ -177,7 +232,9 @@ impl<'t> Expressions<'t> {
     }
 
     /// The value that was computed. Says so if it is evaluated and out of range.
-    pub fn computed(&mut self, place: Place, found: Computed) -> Result<Option<Value>, AllocError> {
+    pub fn computed(&mut self, place: Place, found: Computed) -> Result<Option<Value>, AllocError>
+        ensures stack { stack self.new ≡ stack self.old }
+    {
         match found {
             Ok(value) => Ok(value),
             Err(message) => {
@@ -195,7 +252,8 @@ impl<'t> Expressions<'t> {
         found: Resolved,
         place: Place,
     ) -> Result<Option<ResolvedCall>, AllocError>
-        ensures { IfOk result (λ call. option_map resolved_view call ≡ resolved found) }
+        ensures answer { IfOk result (λ call. option_map resolved_view call ≡ resolved found) }
+        ensures stack { stack self.new ≡ stack self.old }
     {
         let Unresolved {
             reason,
@@ -216,96 +274,15 @@ impl<'t> Expressions<'t> {
         Ok(None)
     }
 
-    /// Says that no overload of an operator takes what an assignment by it has.
-    pub fn tell_overloads(
-        &mut self,
-        operator: BinaryOperator,
-        count: usize,
-        x: &Typed,
-        y: &Typed,
-    ) -> Result<(), AllocError> {
-        let found = resolved_binary(self.alloc, operator, x, y)?;
-        self.taken(found, Place::last_of(count))?;
-        Ok(())
-    }
-
-    /// `x + y`
-    pub fn put_binary(&mut self) -> Result<(), AllocError> {
-        let right = self.take_part()?;
-        let count = self.take_sign();
-        if self.unevaluated == Some(count) {
-            self.unevaluated = None;
-        }
-        let left = self.take_part()?;
-        let place = left.place.up_to(right.place);
-        let have_values = self.has_value(&left)? && self.has_value(&right)?;
-        let operator = binary_of(self.token_before(count).kind);
-        let outcome = match (have_values, left.typed(), right.typed(), operator) {
-            (true, Some(x), Some(y), Some(operator)) => {
-                self.binary(operator, count, (&left, x), (&right, y))?
-            }
-            _ => Outcome::Faulty,
-        };
-        self.parts.push(left)?;
-        self.parts.push(right)?;
-        self.put(place, outcome)
-    }
-
-    fn binary(
-        &mut self,
-        operator: BinaryOperator,
-        count: usize,
-        left: (&Part, &Typed),
-        right: (&Part, &Typed),
-    ) -> Result<Outcome, AllocError>
-        ensures { IfOk result (IsOverloaded (a_binary operator) None (loaded left.entry.1.now ∷ loaded right.entry.1.now ∷ [])
-            (later left.entry.1.now.stage right.entry.1.now.stage)) }
-    {
-        let stage = left.1.stage.later(right.1.stage);
-        let place = Place::last_of(count);
-        let found = resolved_binary(self.alloc, operator, left.1, right.1)?;
-        let Some(call) = self.taken(found, place)? else {
-            return Ok(Outcome::Faulty);
-        };
-        let first = call.parameters.first();
-        let a = self.argument_value(left.0, first)?;
-        let b = self.argument_value(right.0, call.parameters.get(1))?;
-        let (Some(a), Some(b)) = (a, b) else {
-            return Ok(Outcome::Faulty);
-        };
-        if let Some(message) = self.wrong_right(operator, first, b, stage) {
-            self.tell(Rule::Value, place, message)?;
-            return Ok(Outcome::Faulty);
-        }
-        let value = match (a, b) {
-            (Some(a), Some(b)) => self.computed(place, binary_value(operator, a, b))?,
-            (Some(a), None) => decided(operator, a),
-            _ => None,
-        };
-        Ok(of_call(call, stage, value))
-    }
-
-    /// What is wrong with a right operand that is evaluated.
-    fn wrong_right(
-        &self,
-        operator: BinaryOperator,
-        left: Option<&Type>,
-        right: Option<Value>,
-        stage: Stage,
-    ) -> Option<&'static str> {
-        match self.is_evaluated() {
-            true => wrong_right(operator, left, right, stage),
-            false => None,
-        }
-    }
-
     /// The value of an argument in the type of its parameter: `None` where that is told, `Some(None)` if it isn't computed, or out of
     /// range and not evaluated.
     pub fn argument_value(
         &mut self,
         part: &Part,
         parameter: Option<&Type>,
-    ) -> Result<Option<Option<Value>>, AllocError> {
+    ) -> Result<Option<Option<Value>>, AllocError>
+        ensures stack { stack self.new ≡ stack self.old }
+    {
         let (Some(value), Some(parameter)) = (part.value(), parameter) else {
             return Ok(Some(None));
         };
@@ -323,12 +300,20 @@ impl<'t> Expressions<'t> {
     }
 }
 
-/// Whether the left operand of an operator decides when the module is made.
-fn is_decided(operator: Kind, left: &Part) -> bool {
-    match (left.typed(), left.value(), binary_of(operator)) {
-        (Some(typed), Some(value), Some(operator)) => {
-            typed.stage.is_const() && decided(operator, value).is_some()
-        }
+/// Whether an operator evaluates its right operand only if the left one doesn't decide.
+fn is_short_circuit(operator: Kind) -> bool
+    ensures { result ≡ is_short_circuit operator }
+{
+    matches!(operator, Kind::AndAnd | Kind::OrOr)
+}
+
+/// Whether the left operand of an operator may decide when the module is made: so may a value that isn't computed.
+fn may_decide(operator: Kind, left: &Part) -> bool {
+    match (left.typed(), binary_of(operator)) {
+        (Some(typed), Some(operator)) if typed.stage.is_const() => match typed.value {
+            Some(value) => decided(operator, value).is_some(),
+            None => true,
+        },
         _ => false,
     }
 }
@@ -356,7 +341,8 @@ pub fn of_call(call: ResolvedCall, stage: Stage, value: Option<Value>) -> Outcom
 
 /// A value of that type, known at a stage.
 pub fn with_value(ty: Type, stage: Stage, value: Option<Value>) -> Outcome
-    ensures { HasType (view ty) stage Referent.Whole result }
+    ensures ty { HasType (view ty) stage Referent.Whole result }
+    ensures value { HasValue value result }
 {
     Outcome::Typed(Typed {
         ty,

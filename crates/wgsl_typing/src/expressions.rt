@@ -1,9 +1,10 @@
 // What is read of expressions, and what the names in them stand for.
-ghost use Rattle.std.specs.Prelude.{◌≡◌, IfOk, None, false, is_some, not, option_map, slice_get};
+ghost use Rattle.std.specs.Prelude.{◌≡◌, [], ◌∷◌, IfOk, None, false, is_some, not, option_map, slice_get};
 ghost use Rattle.wgsl_core.specs.View.{view};
 ghost use Rattle.wgsl_forms.specs.Views.{answer_view, form_type_view};
 ghost use Rattle.wgsl_names.specs.Faults.{IsTold, IsToldIf};
 ghost use Rattle.wgsl_typing.specs.Declarations.{answer_of};
+ghost use Rattle.wgsl_typing.specs.Stacks.{stack, with_item, with_parts};
 ghost use Rattle.wgsl_typing.specs.Words.{kind_at, kind_of_any, word_at};
 
 use crate::extension::Extensions;
@@ -81,9 +82,24 @@ pub struct Expressions<'t> {
     pub faults: Vec<Fault>,
 }
 
+/// The kind of the last of that many tokens.
+pub fn kind_before(tokens: &[Token], count: usize) -> Kind
+    ensures { result ≡ kind_at tokens.now count }
+{
+    match tokens.get(count.saturating_sub(1)) {
+        Some(token) => token.kind,
+        None => Kind::End,
+    }
+}
+
 impl<'t> Expressions<'t> {
     /// Nothing is read yet.
-    pub fn none(alloc: Global, text: &'t str, tokens: &'t [Token]) -> Expressions<'t> {
+    pub fn none(alloc: Global, text: &'t str, tokens: &'t [Token]) -> Expressions<'t>
+        ensures items { (stack result).items ≡ [] }
+        ensures parts { (stack result).parts ≡ [] }
+        ensures text { (stack result).context.text ≡ text.now }
+        ensures tokens { (stack result).context.tokens ≡ tokens.now }
+    {
         Expressions {
             alloc,
             text,
@@ -143,20 +159,25 @@ impl<'t> Expressions<'t> {
     }
 
     /// Puts an item on top of the others.
-    pub fn push(&mut self, item: Item) -> Result<(), AllocError> {
+    pub fn push(&mut self, item: Item) -> Result<(), AllocError>
+        ensures { IfOk result (λ u. stack self.new ≡ with_item item (stack self.old)) }
+    {
         self.items.push(item)?;
         Ok(())
     }
 
     /// Notes an expression that is used.
-    pub fn note(&mut self, part: Part) -> Result<(), AllocError> {
+    pub fn note(&mut self, part: Part) -> Result<(), AllocError>
+        ensures { IfOk result (λ u. stack self.new ≡ with_parts (part ∷ []) (stack self.old)) }
+    {
         self.parts.push(part)?;
         Ok(())
     }
 
     /// Says what is wrong.
     pub fn fault(&mut self, rule: Rule, place: Place, message: String) -> Result<(), AllocError>
-        ensures { IfOk result (λ u. IsTold rule place self.old.faults.items self.new.faults.items) }
+        ensures answer { IfOk result (λ u. IsTold rule place self.old.faults.items self.new.faults.items) }
+        ensures stack { stack self.new ≡ stack self.old }
     {
         let message = self.as_written(message)?;
         self.faults.push(Fault {
@@ -169,7 +190,9 @@ impl<'t> Expressions<'t> {
     }
 
     /// Adds a note to the last fault.
-    pub fn add_note(&mut self, place: Place, message: String) -> Result<(), AllocError> {
+    pub fn add_note(&mut self, place: Place, message: String) -> Result<(), AllocError>
+        ensures stack { stack self.new ≡ stack self.old }
+    {
         let message = self.as_written(message)?;
         if let Some(fault) = self.faults.last_mut() {
             fault.notes.push(Note { place, message })?;
@@ -178,7 +201,9 @@ impl<'t> Expressions<'t> {
     }
 
     /// Adds to the last fault where a name is declared.
-    pub fn refer(&mut self, named: usize) -> Result<(), AllocError> {
+    pub fn refer(&mut self, named: usize) -> Result<(), AllocError>
+        ensures stack { stack self.new ≡ stack self.old }
+    {
         let name = self.word(named);
         let message = format!(in self.alloc; "`{name}` is declared here")?;
         self.add_note(Place::last_of(named), message)
@@ -186,14 +211,17 @@ impl<'t> Expressions<'t> {
 
     /// Says what is wrong in words that don't depend on the text.
     pub fn tell(&mut self, rule: Rule, place: Place, message: &str) -> Result<(), AllocError>
-        ensures { IfOk result (λ u. IsTold rule place self.old.faults.items self.new.faults.items) }
+        ensures answer { IfOk result (λ u. IsTold rule place self.old.faults.items self.new.faults.items) }
+        ensures stack { stack self.new ≡ stack self.old }
     {
         let message = String::from_str(self.alloc, message)?;
         self.fault(rule, place, message)
     }
 
     /// Says what is wrong with a name.
-    pub fn tell_name(&mut self, rule: Rule, count: usize, message: &str) -> Result<(), AllocError> {
+    pub fn tell_name(&mut self, rule: Rule, count: usize, message: &str) -> Result<(), AllocError>
+        ensures stack { stack self.new ≡ stack self.old }
+    {
         let name = self.word(count);
         let message = format!(in self.alloc; "`{name}` {message}")?;
         self.fault(rule, Place::last_of(count), message)
@@ -206,7 +234,8 @@ impl<'t> Expressions<'t> {
         count: usize,
         message: &str,
     ) -> Result<Option<T>, AllocError>
-        ensures { IfOk result (λ found. found ≡ None) }
+        ensures answer { IfOk result (λ found. found ≡ None) }
+        ensures stack { stack self.new ≡ stack self.old }
     {
         self.tell_name(rule, count, message)?;
         Ok(None)
@@ -214,7 +243,8 @@ impl<'t> Expressions<'t> {
 
     /// Faulty, as this is wrong with a name.
     pub fn faulty(&mut self, rule: Rule, count: usize, message: &str) -> Result<Outcome, AllocError>
-        ensures { IfOk result (λ o. o ≡ Outcome.Faulty) }
+        ensures answer { IfOk result (λ o. o ≡ Outcome.Faulty) }
+        ensures stack { stack self.new ≡ stack self.old }
     {
         self.tell_name(rule, count, message)?;
         Ok(Outcome::Faulty)
@@ -222,7 +252,8 @@ impl<'t> Expressions<'t> {
 
     /// No, as this is wrong with a name.
     pub fn no(&mut self, rule: Rule, count: usize, message: &str) -> Result<bool, AllocError>
-        ensures { IfOk result (λ answer. answer ≡ false) }
+        ensures answer { IfOk result (λ answer. answer ≡ false) }
+        ensures stack { stack self.new ≡ stack self.old }
     {
         self.tell_name(rule, count, message)?;
         Ok(false)
@@ -232,6 +263,7 @@ impl<'t> Expressions<'t> {
     pub fn allows(&mut self, place: Place, refusal: Option<Refusal<'_>>) -> Result<bool, AllocError>
         ensures allowed { IfOk result (λ is. is ≡ not (is_some refusal.entry)) }
         ensures told { IfOk result (λ is. IsToldIf (is_some refusal.entry) Rule.Type place self.old.faults.items self.new.faults.items) }
+        ensures stack { stack self.new ≡ stack self.old }
     {
         let Some(refusal) = refusal else {
             return Ok(true);
@@ -247,7 +279,8 @@ impl<'t> Expressions<'t> {
         place: Place,
         form: Result<FormType<'_>, Refusal<'_>>,
     ) -> Result<Option<Type>, AllocError>
-        ensures { IfOk result (λ t. option_map view t ≡ answer_of (answer_view form_type_view form.entry)) }
+        ensures answer { IfOk result (λ t. option_map view t ≡ answer_of (answer_view form_type_view form.entry)) }
+        ensures stack { stack self.new ≡ stack self.old }
     {
         match form {
             Ok(ty) => Ok(Some(ty.build(self.alloc)?)),

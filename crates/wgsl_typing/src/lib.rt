@@ -6,6 +6,7 @@
 
 pub mod argument;
 mod ask;
+mod binary;
 pub mod call;
 pub mod constant;
 mod construct;
@@ -20,5 +21,6 @@ pub mod list;
 pub mod meant;
 pub mod name;
 mod number;
+mod parameter;
 mod step;
 mod texture;

@@ -1,21 +1,26 @@
 // Names with template lists (WGSL, "Template Lists", "Types").
+ghost use Rattle.std.specs.Prelude.{◌≡◌, ◌∷◌, IfOk, Some, option_map, reverse};
+ghost use Rattle.wgsl_constants.specs.Literals.{then};
+ghost use Rattle.wgsl_core.specs.View.{view};
+ghost use Rattle.wgsl_typing.specs.Names.{context, word_in};
+ghost use Rattle.wgsl_typing.specs.Predeclared.{type_called};
+ghost use Rattle.wgsl_typing.specs.Stacks.{KeepsItems, stack, with_items};
+ghost use Rattle.wgsl_typing.specs.Templates.{IsAround, IsClosed, IsLimited, IsListed, IsPredeclaredListed, IsTypeListed, Template, atomic_of, below_list, in_list, is_component, is_float, is_integer, is_open, matrix_of, only_type, pointer_of, template_of, vector_of};
 
-use crate::count::has_override_count;
+use crate::count::may_be_counted;
 use crate::expressions::Expressions;
 use crate::item::{Item, Listed};
 use crate::meant::Wanted;
 use crate::name::{Meaning, predeclared_type};
 use std::alloc::AllocError;
-use std::str::FromStr;
 use wgsl_core::ty::Type;
+use wgsl_core::ty::form::Form;
 use wgsl_forms::variable::variable;
 use wgsl_names::fault::{Place, Rule};
-use wgsl_names::known::Part;
-use wgsl_spelling::meant::{ACCESS_MODES, SPACES};
 use wgsl_spelling::predeclared::{LayerName, PredeclaredType};
 use wgsl_standard::callee::{Callee, overloads};
 use wgsl_syntax::address::{AccessMode, AddressSpace};
-use wgsl_syntax::rules::RuleSet;
+use wgsl_syntax::scalar::Scalar;
 
 /// From this count on, a count stands for an override expression: no array in memory has that many elements.
 pub const OVERRIDE_COUNT: usize = 0x8000_0000;
@@ -25,173 +30,130 @@ pub const DEPTH: usize = 255;
 
 impl<'t> Expressions<'t> {
     /// `>` of a template list: the name in front of it stands for something with it, or it is the list of a variable.
-    pub fn close_list(&mut self, count: usize) -> Result<(), AllocError> {
+    pub fn close_list(&mut self, count: usize) -> Result<(), AllocError>
+        ensures { IfOk result (λ u. Template count (stack self.old) (stack self.new)) }
+    {
         let mut list = self.take_list()?;
-        let item = match self.items.pop() {
-            Some(Item::Name(named)) => {
-                let listed = self.listed(named, &mut list)?;
-                Item::Listed(Place::last_of(named).up_to(Place::last_of(count)), listed)
-            }
-            Some(other) => {
-                self.items.push(other)?;
-                Item::Space(self.space_listed(count, &mut list)?)
-            }
-            None => Item::Space(self.space_listed(count, &mut list)?),
-        };
-        for left in list {
-            if let Item::Part(part) = left {
-                self.parts.push(part)?;
-            }
-        }
+        let item = self.closed(count, &mut list)?;
+        self.note_left(list)?;
         self.push(item)
     }
 
     /// Takes the items of the innermost list, the last first.
-    pub fn take_list(&mut self) -> Result<Vec<Item>, AllocError> {
+    pub fn take_list(&mut self) -> Result<Vec<Item>, AllocError>
+        ensures list { IfOk result (λ list. list.items ≡ in_list (stack self.old).items) }
+        ensures rest { IfOk result (λ list. stack self.new ≡ with_items (below_list (stack self.old).items) (stack self.old)) }
+    {
         let mut list = Vec::new(self.alloc);
         for _ in 0..self.items.len() {
-            let Some(item) = self.items.pop() else {
-                break;
-            };
-            match item {
-                Item::OpenList => break,
-                item => list.push(item)?,
+            match self.items.pop() {
+                Some(item) => {
+                    if is_open(&item) {
+                        return Ok(list);
+                    }
+                    list.push(item)?;
+                }
+                None => return Ok(list),
             }
         }
         Ok(list)
     }
 
+    /// What the name in front of a list stands for with it, whose first item stands last, or the list of a variable.
+    fn closed(&mut self, count: usize, list: &mut Vec<Item>) -> Result<Item, AllocError>
+        ensures item { IfOk result (λ item. IsClosed count (context self.old) (reverse list.old.items) (stack self.old).items (item ∷ (stack self.new).items)) }
+        ensures context { IfOk result (λ item. context self.new ≡ context self.old) }
+    {
+        match self.items.pop() {
+            Some(Item::Name(named)) => {
+                let listed = self.listed(named, list)?;
+                Ok(Item::Listed(Place::last_of(named).up_to(Place::last_of(count)), listed))
+            }
+            Some(other) => {
+                self.items.push(other)?;
+                Ok(Item::Space(self.space_listed(count, list)?))
+            }
+            None => Ok(Item::Space(self.space_listed(count, list)?)),
+        }
+    }
+
+    /// Notes expressions that are left of a list.
+    fn note_left(&mut self, list: Vec<Item>) -> Result<(), AllocError>
+        ensures { IfOk result (λ u. KeepsItems (stack self.old) (stack self.new)) }
+    {
+        for left in list {
+            if let Item::Part(part) = left {
+                self.note(part)?;
+            }
+        }
+        Ok(())
+    }
+
     /// What a name stands for with a list, whose first item stands last.
-    fn listed(&mut self, named: usize, list: &mut Vec<Item>) -> Result<Listed, AllocError> {
+    fn listed(&mut self, named: usize, list: &mut Vec<Item>) -> Result<Listed, AllocError>
+        ensures answer { IfOk result (IsListed (context self.old) named (reverse list.old.items)) }
+        ensures stack { IfOk result (λ l. KeepsItems (stack self.old) (stack self.new)) }
+    {
         match self.meaning(named) {
-            Meaning::Undeclared => {}
+            Meaning::Undeclared => self.predeclared_listed(named, list),
             Meaning::Unread(_) => {
                 self.cyclic(named)?;
-                return Ok(Listed::Type(None));
+                Ok(Listed::Type(None))
             }
             Meaning::Local(_) | Meaning::Declared(_) => {
                 self.tell_name(Rule::Name, named, "takes no template list")?;
-                return Ok(Listed::Type(None));
-            }
-        }
-        let name = self.word(named);
-        match predeclared_type(name) {
-            Some(PredeclaredType::Layer(layer)) => {
-                Ok(Listed::Type(self.layered(named, layer, list)?))
-            }
-            Some(PredeclaredType::Texture(texture)) => {
-                Ok(Listed::Type(self.texture(named, texture, list)?))
-            }
-            Some(_) => {
-                self.tell_name(Rule::Name, named, "takes no template list")?;
                 Ok(Listed::Type(None))
             }
-            None => self.function_listed(named, list),
         }
     }
 
-    /// `bitcast<f32>`
-    fn function_listed(
+    fn predeclared_listed(
         &mut self,
         named: usize,
         list: &mut Vec<Item>,
-    ) -> Result<Listed, AllocError> {
-        let name = self.word(named);
-        if overloads(Callee::Function(name), true).is_none() {
-            if overloads(Callee::Function(name), false).is_some() {
-                self.tell_name(Rule::Name, named, "takes no template list")?;
-            } else {
-                self.tell_unknown(Wanted::Listed, named)?;
-            }
-            return Ok(Listed::Function(named, None));
+    ) -> Result<Listed, AllocError>
+        ensures answer { IfOk result (IsPredeclaredListed (context self.old) named
+            (type_called (word_in (context self.old) named)) (reverse list.old.items)) }
+        ensures stack { IfOk result (λ l. KeepsItems (stack self.old) (stack self.new)) }
+    {
+        match predeclared_type(self.word(named)) {
+            Some(predeclared) => Ok(Listed::Type(self.with_list(named, predeclared, list)?)),
+            None => Ok(Listed::Function(named, self.template(named, list)?)),
         }
-        if !self.has_length(named, list, 1, 1)? {
-            return Ok(Listed::Function(named, None));
-        }
-        let ty = self.next_type(list)?;
-        Ok(Listed::Function(named, ty))
     }
 
-    /// Whether the list has a number of parameters that the name takes.
-    pub fn has_length(
+    fn with_list(
         &mut self,
         named: usize,
-        list: &[Item],
-        least: usize,
-        most: usize,
-    ) -> Result<bool, AllocError> {
-        let count = list.len();
-        if least <= count && count <= most {
-            return Ok(true);
-        }
-        self.no(
-            Rule::Template,
-            named,
-            "takes another number of template parameters",
-        )
-    }
-
-    /// The type that the next item of a list is.
-    pub fn next_type(&mut self, list: &mut Vec<Item>) -> Result<Option<Type>, AllocError> {
-        let Some(item) = list.pop() else {
-            return Ok(None);
-        };
-        self.items.push(item)?;
-        let (_, ty) = self.take_type()?;
-        Ok(ty)
-    }
-
-    /// The expression that the next item of a list is.
-    pub fn next_part(&mut self, list: &mut Vec<Item>) -> Result<Part, AllocError> {
-        if let Some(item) = list.pop() {
-            self.items.push(item)?;
-        }
-        self.take_part()
-    }
-
-    /// The name of an enumerant. What the module or the function declares is none, and stays in the list.
-    pub fn next_enumerant(&mut self, list: &mut Vec<Item>) -> Result<Option<usize>, AllocError> {
-        let (name, place) = match list.last() {
-            Some(item) => (name_of(item), place_of(item)),
-            None => return Ok(None),
-        };
-        match name {
-            Some(count) if !self.is_declared(count) => {
-                list.pop();
-                Ok(Some(count))
-            }
-            _ => {
-                self.tell(Rule::Template, place, "expected an enumerant")?;
-                Ok(None)
-            }
+        predeclared: PredeclaredType,
+        list: &mut Vec<Item>,
+    ) -> Result<Option<Type>, AllocError>
+        ensures answer { IfOk result (λ ty. IsTypeListed (context self.old) predeclared (reverse list.old.items) (option_map view ty)) }
+        ensures stack { IfOk result (λ l. KeepsItems (stack self.old) (stack self.new)) }
+    {
+        match predeclared {
+            PredeclaredType::Layer(layer) => self.around_type(named, layer, list),
+            PredeclaredType::Texture(texture) => self.texture(named, texture, list),
+            _ => self.nothing(Rule::Name, named, "takes no template list"),
         }
     }
 
-    fn next_space(&mut self, list: &mut Vec<Item>) -> Result<Option<AddressSpace>, AllocError> {
-        let Some(count) = self.next_enumerant(list)? else {
-            return Ok(None);
-        };
-        match AddressSpace::named_by(RuleSet::Standard, self.word(count)) {
-            Some(space) if space != AddressSpace::Handle => Ok(Some(space)),
-            _ => {
-                self.tell_among(Rule::Template, count, "is no address space", SPACES)?;
-                Ok(None)
-            }
+    /// The type in the list of a function: `bitcast<f32>`
+    fn template(&mut self, named: usize, list: &mut Vec<Item>) -> Result<Option<Type>, AllocError>
+        ensures answer { IfOk result (λ ty. option_map view ty
+            ≡ template_of (context self.old) (word_in (context self.old) named) (reverse list.old.items)) }
+        ensures stack { IfOk result (λ l. KeepsItems (stack self.old) (stack self.new)) }
+    {
+        let name = self.word(named);
+        if overloads(Callee::Function(name), true).is_some() {
+            return self.only_type(named, list);
         }
-    }
-
-    /// Takes the access mode at the front of a list; None if none is there, which is told.
-    pub fn next_access(&mut self, list: &mut Vec<Item>) -> Result<Option<AccessMode>, AllocError> {
-        let Some(count) = self.next_enumerant(list)? else {
-            return Ok(None);
-        };
-        match AccessMode::from_str(self.word(count)) {
-            Ok(access) if access != AccessMode::Atomic => Ok(Some(access)),
-            _ => {
-                self.tell_among(Rule::Template, count, "is no access mode", ACCESS_MODES)?;
-                Ok(None)
-            }
+        if overloads(Callee::Function(name), false).is_some() {
+            self.tell_name(Rule::Name, named, "takes no template list")?;
+        } else {
+            self.tell_unknown(Wanted::Listed, named)?;
         }
+        Ok(None)
     }
 
     /// `<storage, read_write>` of a variable, whose list ends behind that many tokens
@@ -199,7 +161,9 @@ impl<'t> Expressions<'t> {
         &mut self,
         count: usize,
         list: &mut Vec<Item>,
-    ) -> Result<Option<(AddressSpace, Option<AccessMode>)>, AllocError> {
+    ) -> Result<Option<(AddressSpace, Option<AccessMode>)>, AllocError>
+        ensures stack { stack self.new ≡ stack self.old }
+    {
         let length = list.len();
         let Some(space) = self.next_space(list)? else {
             return Ok(None);
@@ -218,20 +182,19 @@ impl<'t> Expressions<'t> {
         }
     }
 
-    fn layered(
-        &mut self,
-        named: usize,
-        layer: LayerName,
-        list: &mut Vec<Item>,
-    ) -> Result<Option<Type>, AllocError> {
-        match self.around_type(named, layer, list)? {
-            Some(ty) if self.structs.depth(&ty) > DEPTH => self.nothing(
+    /// The type, if it isn't too deep, which is told.
+    pub fn limited(&mut self, named: usize, ty: Type) -> Result<Option<Type>, AllocError>
+        ensures answer { IfOk result (λ found. IsLimited (Some (view ty)) (option_map view found)) }
+        ensures stack { stack self.new ≡ stack self.old }
+    {
+        if self.structs.depth(&ty) > DEPTH {
+            return self.nothing(
                 Rule::Limit,
                 named,
                 "has more than 255 types inside one another",
-            ),
-            ty => Ok(ty),
+            );
         }
+        Ok(Some(ty))
     }
 
     fn around_type(
@@ -239,21 +202,17 @@ impl<'t> Expressions<'t> {
         named: usize,
         layer: LayerName,
         list: &mut Vec<Item>,
-    ) -> Result<Option<Type>, AllocError> {
-        let (least, most) = match layer {
-            LayerName::Array | LayerName::BindingArray => (1, 2),
-            LayerName::Pointer | LayerName::Reference => (2, 3),
-            LayerName::Vec(_) | LayerName::Mat(_, _) | LayerName::Atomic => (1, 1),
-        };
-        if !self.has_length(named, list, least, most)? {
-            return Ok(None);
-        }
+    ) -> Result<Option<Type>, AllocError>
+        ensures answer { IfOk result (λ ty. IsAround (context self.old) layer (reverse list.old.items) (option_map view ty)) }
+        ensures stack { IfOk result (λ ty. KeepsItems (stack self.old) (stack self.new)) }
+    {
         match layer {
             LayerName::Vec(n) => self.vector(named, n, list),
             LayerName::Mat(c, r) => self.matrix(named, c, r, list),
             LayerName::Atomic => self.atomic(named, list),
-            LayerName::Array | LayerName::BindingArray => self.array(named, list),
-            LayerName::Pointer | LayerName::Reference => self.pointer(named, list),
+            LayerName::Array => self.array(named, list),
+            LayerName::Pointer => self.pointer(named, list),
+            LayerName::BindingArray | LayerName::Reference => Ok(None),
         }
     }
 
@@ -262,16 +221,17 @@ impl<'t> Expressions<'t> {
         named: usize,
         n: u8,
         list: &mut Vec<Item>,
-    ) -> Result<Option<Type>, AllocError> {
-        let Some(of) = self.next_type(list)? else {
+    ) -> Result<Option<Type>, AllocError>
+        ensures answer { IfOk result (λ ty. option_map view ty ≡ then (only_type (context self.old) (reverse list.old.items)) (vector_of n)) }
+        ensures stack { IfOk result (λ ty. KeepsItems (stack self.old) (stack self.new)) }
+    {
+        let Some(of) = self.only_type(named, list)? else {
             return Ok(None);
         };
-        match of {
-            Type::Bool | Type::I32 | Type::U32 | Type::F32 | Type::F16 => {
-                Ok(Some(Type::vector(self.alloc, n, of)?))
-            }
-            _ => self.nothing(Rule::Overload, named, "takes a concrete scalar"),
+        if !is_component(&of) {
+            return self.nothing(Rule::Overload, named, "takes a concrete scalar");
         }
+        Ok(Some(Type::vector(self.alloc, n, of)?))
     }
 
     fn matrix(
@@ -280,27 +240,38 @@ impl<'t> Expressions<'t> {
         c: u8,
         r: u8,
         list: &mut Vec<Item>,
-    ) -> Result<Option<Type>, AllocError> {
-        let Some(of) = self.next_type(list)? else {
+    ) -> Result<Option<Type>, AllocError>
+        ensures answer { IfOk result (λ ty. option_map view ty ≡ then (only_type (context self.old) (reverse list.old.items)) (matrix_of c r)) }
+        ensures stack { IfOk result (λ ty. KeepsItems (stack self.old) (stack self.new)) }
+    {
+        let Some(of) = self.only_type(named, list)? else {
             return Ok(None);
         };
-        match of {
-            Type::F32 | Type::F16 => Ok(Some(Type::matrix(self.alloc, c, r, of)?)),
-            _ => self.nothing(Rule::Overload, named, "takes `f32` or `f16`"),
+        if !is_float(&of) {
+            return self.nothing(Rule::Overload, named, "takes `f32` or `f16`");
         }
+        Ok(Some(Type::matrix(self.alloc, c, r, of)?))
     }
 
-    fn atomic(&mut self, named: usize, list: &mut Vec<Item>) -> Result<Option<Type>, AllocError> {
-        let Some(of) = self.next_type(list)? else {
+    fn atomic(&mut self, named: usize, list: &mut Vec<Item>) -> Result<Option<Type>, AllocError>
+        ensures answer { IfOk result (λ ty. option_map view ty ≡ then (only_type (context self.old) (reverse list.old.items)) atomic_of) }
+        ensures stack { IfOk result (λ ty. KeepsItems (stack self.old) (stack self.new)) }
+    {
+        let Some(of) = self.only_type(named, list)? else {
             return Ok(None);
         };
-        match of {
-            Type::I32 | Type::U32 => Ok(Some(Type::Atomic(Box::new(self.alloc, of)?))),
-            _ => self.nothing(Rule::Template, named, "takes `i32` or `u32`"),
+        if !is_integer(&of) {
+            return self.nothing(Rule::Template, named, "takes `i32` or `u32`");
         }
+        Ok(Some(Type::Atomic(Box::new(self.alloc, of)?)))
     }
 
-    fn pointer(&mut self, named: usize, list: &mut Vec<Item>) -> Result<Option<Type>, AllocError> {
+    fn pointer(&mut self, named: usize, list: &mut Vec<Item>) -> Result<Option<Type>, AllocError>
+        ensures stack { IfOk result (λ ty. KeepsItems (stack self.old) (stack self.new)) }
+    {
+        if !self.has_length(named, list, 2, 3)? {
+            return Ok(None);
+        }
         let Some(space) = self.next_space(list)? else {
             return Ok(None);
         };
@@ -312,9 +283,22 @@ impl<'t> Expressions<'t> {
             },
             true => None,
         };
-        let Some(of) = of else {
-            return Ok(None);
-        };
+        match of {
+            Some(of) => self.pointer_to(named, space, access, of),
+            None => Ok(None),
+        }
+    }
+
+    fn pointer_to(
+        &mut self,
+        named: usize,
+        space: AddressSpace,
+        access: Option<AccessMode>,
+        of: Type,
+    ) -> Result<Option<Type>, AllocError>
+        ensures answer { IfOk result (λ ty. IsLimited (pointer_of space access (view of)) (option_map view ty)) }
+        ensures stack { stack self.new ≡ stack self.old }
+    {
         if access.is_some() && space != AddressSpace::Storage {
             return self.nothing(
                 Rule::Template,
@@ -326,29 +310,52 @@ impl<'t> Expressions<'t> {
         if !self.allows(Place::last_of(named), variable(space, access, &of).err())? {
             return Ok(None);
         }
-        if space != AddressSpace::Workgroup && has_override_count(&of) {
+        if !may_be_counted(space, &of) {
             let message = "points to an array with a count that only `workgroup` may have";
             return self.nothing(Rule::Template, named, message);
         }
         let access = access.unwrap_or(space.default_access_mode());
-        Ok(Some(Type::Ptr(space, Box::new(self.alloc, of)?, access)))
+        let ty = Type::Ptr(space, Box::new(self.alloc, of)?, access);
+        self.limited(named, ty)
     }
 }
 
-/// The name that an item is, by the number of tokens up to it.
-fn name_of(item: &Item) -> Option<usize> {
-    match item {
-        Item::Name(count) => Some(*count),
-        _ => None,
+/// Whether a template list begins with it.
+fn is_open(item: &Item) -> bool
+    ensures { result ≡ is_open item.now }
+{
+    matches!(item, Item::OpenList)
+}
+
+/// Whether a vector may have components of the type.
+fn is_component(ty: &Type) -> bool
+    ensures { result ≡ is_component (view ty.now) }
+{
+    match ty.form() {
+        Form::Scalar(scalar) => matches!(
+            scalar,
+            Scalar::Bool | Scalar::I32 | Scalar::U32 | Scalar::F32 | Scalar::F16
+        ),
+        _ => false,
     }
 }
 
-/// The tokens of an item of a list.
-fn place_of(item: &Item) -> Place {
-    match item {
-        Item::Part(part) => part.place,
-        Item::Listed(place, _) => *place,
-        Item::Name(count) => Place::last_of(*count),
-        _ => Place::last_of(0),
+/// Whether a matrix may have components of the type.
+fn is_float(ty: &Type) -> bool
+    ensures { result ≡ is_float (view ty.now) }
+{
+    match ty.form() {
+        Form::Scalar(scalar) => matches!(scalar, Scalar::F32 | Scalar::F16),
+        _ => false,
+    }
+}
+
+/// Whether an atomic may hold the type.
+fn is_integer(ty: &Type) -> bool
+    ensures { result ≡ is_integer (view ty.now) }
+{
+    match ty.form() {
+        Form::Scalar(scalar) => matches!(scalar, Scalar::I32 | Scalar::U32),
+        _ => false,
     }
 }

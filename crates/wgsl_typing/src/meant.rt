@@ -1,4 +1,6 @@
 // What a word may have meant that stands for nothing.
+ghost use Rattle.std.specs.Prelude.{◌≡◌};
+ghost use Rattle.wgsl_typing.specs.Stacks.{stack};
 
 use crate::expressions::Expressions;
 use std::alloc::AllocError;
@@ -25,7 +27,9 @@ pub enum Wanted {
 
 impl<'t> Expressions<'t> {
     /// Says that a name stands for nothing of the kind, and which one it may have meant.
-    pub fn tell_unknown(&mut self, wanted: Wanted, count: usize) -> Result<(), AllocError> {
+    pub fn tell_unknown(&mut self, wanted: Wanted, count: usize) -> Result<(), AllocError>
+        ensures stack { stack self.new ≡ stack self.old }
+    {
         let message = match wanted {
             Wanted::Value => "stands for no value",
             Wanted::Type => "stands for no type",
@@ -44,15 +48,17 @@ impl<'t> Expressions<'t> {
         count: usize,
         message: &str,
         names: &'static str,
-    ) -> Result<(), AllocError> {
+    ) -> Result<(), AllocError>
+        ensures stack { stack self.new ≡ stack self.old }
+    {
         self.tell_name(rule, count, message)?;
-        let mut nearest = Nearest::to(self.word(count));
-        offer_all(&mut nearest, names);
-        self.suggest(nearest.name)
+        self.suggest(nearest_of(self.word(count), names))
     }
 
     /// Adds to the last fault what its word may have meant, of the first ones of a text.
-    pub fn suggest(&mut self, name: Option<&str>) -> Result<(), AllocError> {
+    pub fn suggest(&mut self, name: Option<&str>) -> Result<(), AllocError>
+        ensures stack { stack self.new ≡ stack self.old }
+    {
         let Some(left) = self.guesses.checked_sub(1) else {
             return Ok(());
         };
@@ -87,6 +93,7 @@ impl<'t> Expressions<'t> {
             }
             Wanted::Type | Wanted::Listed => offer_all(&mut nearest, TYPES),
             Wanted::Function => {
+                offer_vectors_and_matrices(&mut nearest, TYPES);
                 if let Some(name) = meant(word) {
                     nearest.offer(name);
                 }
@@ -119,6 +126,22 @@ impl<'t> Expressions<'t> {
         }
         nearest.name
     }
+}
+
+/// Offers those names of types that stand for vectors and matrices.
+fn offer_vectors_and_matrices<'a>(nearest: &mut Nearest<'a>, names: &'static str) {
+    for name in names.split_whitespace() {
+        if name.starts_with("vec") || name.starts_with("mat") {
+            nearest.offer(name);
+        }
+    }
+}
+
+/// The name of a list that a word may have meant.
+pub fn nearest_of<'a>(word: &'a str, names: &'static str) -> Option<&'a str> {
+    let mut nearest = Nearest::to(word);
+    offer_all(&mut nearest, names);
+    nearest.name
 }
 
 fn offer_all<'a>(nearest: &mut Nearest<'a>, names: &'static str) {

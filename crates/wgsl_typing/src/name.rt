@@ -1,7 +1,15 @@
 // What a name stands for at a place, as a value and as a type (WGSL, "Declaration and Scope").
+ghost use Rattle.std.specs.Prelude.{◌≡◌, IfOk, None, option_map};
+ghost use Rattle.std.specs.Option.{option_and_then};
 ghost use Rattle.wgsl_core.specs.View.{view};
 ghost use Rattle.wgsl_forms.specs.declared.form.Referent.TheVariants.{Whole};
+ghost use Rattle.wgsl_syntax.specs.TextureName.{texture_with};
+ghost use Rattle.wgsl_rules.specs.types.Types.{texture as a_texture};
+ghost use Rattle.wgsl_typing.specs.Names.{IsNamed, IsValue, context, declaration_of, is_skipped, known_of, local_of, meaning_at, type_named, value_of, value_of_known, value_of_local, with_known, word_in};
 ghost use Rattle.wgsl_typing.specs.Outcomes.{HasType};
+ghost use Rattle.wgsl_typing.specs.Predeclared.{is_unnamed, type_called, type_predeclared, type_without_list};
+ghost use Rattle.wgsl_typing.specs.Stacks.{IsOnTop, below_operand, stack, with_declared, with_items};
+ghost use Rattle.wgsl_typing.specs.Types.{IsTypeOnTop, below_type, type_listed};
 
 use crate::expressions::Expressions;
 use crate::item::{Item, Listed};
@@ -14,6 +22,7 @@ use wgsl_names::stage::Stage;
 use wgsl_reader::kind::Kind;
 use wgsl_spelling::predeclared::{LayerName, PredeclaredType, predeclared};
 use wgsl_syntax::overload::Stages;
+use wgsl_syntax::scalar::Scalar;
 use wgsl_syntax::texture_name::{TextureName, TextureParameters};
 
 /// What a name stands for.
@@ -31,7 +40,9 @@ pub enum Meaning {
 
 impl<'t> Expressions<'t> {
     /// What the last of that many tokens stands for.
-    pub fn meaning(&self, count: usize) -> Meaning {
+    pub fn meaning(&self, count: usize) -> Meaning
+        ensures { result ≡ meaning_at (context self.now) count }
+    {
         let name = self.word(count);
         if let Some(index) = self.locals.index_of(name) {
             return Meaning::Local(index);
@@ -43,30 +54,38 @@ impl<'t> Expressions<'t> {
         }
     }
 
-    /// Whether the module or the function declares the name, so that what WGSL predeclares is out of sight.
-    pub fn is_declared(&self, count: usize) -> bool {
-        !matches!(self.meaning(count), Meaning::Undeclared)
-    }
-
     /// What the declaration with an index stands for, if it is read.
-    pub fn known_at(&self, index: usize) -> Option<&Known> {
+    pub fn known_at(&self, index: usize) -> Option<&Known>
+        ensures { option_map (λ k. k.now) result ≡ known_of self.now.declared.items index }
+    {
         self.declared.get(index)?.known.as_ref()
     }
 
     /// Takes what a declaration stands for, which `put_known` gives back.
-    pub fn take_known(&mut self, index: usize) -> Option<Known> {
-        self.declared.get_mut(index)?.known.take()
+    pub fn take_known(&mut self, index: usize) -> Option<Known>
+        ensures taken { result ≡ known_of self.old.declared.items index }
+        ensures stack { stack self.new ≡ with_declared (with_known index None (context self.old).declared) (stack self.old) }
+    {
+        if index >= self.declared.len() {
+            return None;
+        }
+        self.declared[index].known.take()
     }
 
     /// Gives back what a declaration stands for.
-    pub fn put_known(&mut self, index: usize, known: Option<Known>) {
-        if let Some(declared) = self.declared.get_mut(index) {
-            declared.known = known;
+    pub fn put_known(&mut self, index: usize, known: Option<Known>)
+        ensures stack { stack self.new ≡ with_declared (with_known index known (context self.old).declared) (stack self.old) }
+    {
+        if index < self.declared.len() {
+            self.declared[index].known = known;
         }
     }
 
     /// Takes the operand on top.
-    pub fn take_part(&mut self) -> Result<Part, AllocError> {
+    pub fn take_part(&mut self) -> Result<Part, AllocError>
+        ensures operand { IfOk result (IsOnTop (stack self.old)) }
+        ensures rest { IfOk result (λ x. stack self.new ≡ with_items (below_operand (stack self.old).items) (stack self.old)) }
+    {
         match self.items.pop() {
             Some(Item::Part(part)) => Ok(part),
             Some(Item::Name(count)) => self.value_named(count),
@@ -80,7 +99,11 @@ impl<'t> Expressions<'t> {
     }
 
     /// A type in place of a value.
-    fn no_value(&mut self, place: Place, listed: Listed) -> Result<Part, AllocError> {
+    pub fn no_value(&mut self, place: Place, listed: Listed) -> Result<Part, AllocError>
+        ensures place { IfOk result (λ x. x.place ≡ place) }
+        ensures outcome { IfOk result (λ x. x.outcome ≡ Outcome.Faulty) }
+        ensures stack { stack self.new ≡ stack self.old }
+    {
         if !matches!(listed, Listed::Type(None) | Listed::Function(_, None)) {
             self.tell(Rule::Name, place, "this is a type, and no value")?;
         }
@@ -88,28 +111,40 @@ impl<'t> Expressions<'t> {
     }
 
     /// The value that a name stands for.
-    fn value_named(&mut self, count: usize) -> Result<Part, AllocError> {
-        let place = Place::last_of(count);
-        let outcome = match self.meaning(count) {
-            Meaning::Local(index) => self.value_of_local(index, count)?,
-            Meaning::Declared(index) => self.value_declared(index, count)?,
-            Meaning::Unread(_) => self.cyclic(count)?,
-            Meaning::Undeclared => {
-                self.tell_unknown(Wanted::Value, count)?;
-                Outcome::Faulty
-            }
-        };
+    pub fn value_named(&mut self, count: usize) -> Result<Part, AllocError>
+        ensures value { IfOk result (IsNamed (context self.old) count) }
+        ensures stack { stack self.new ≡ stack self.old }
+    {
+        let outcome = self.outcome_named(count)?;
         let declared = self.place_of_declaration(count);
         Ok(Part {
-            place,
+            place: Place::last_of(count),
             outcome,
             may_be_dropped: false,
             declared,
         })
     }
 
+    fn outcome_named(&mut self, count: usize) -> Result<Outcome, AllocError>
+        ensures answer { IfOk result (IsValue (value_of (context self.old) (meaning_at (context self.old) count))) }
+        ensures stack { stack self.new ≡ stack self.old }
+    {
+        match self.meaning(count) {
+            Meaning::Local(index) => self.value_of_local(index, count),
+            Meaning::Declared(index) => self.value_declared(index, count),
+            Meaning::Unread(_) => self.cyclic(count),
+            Meaning::Undeclared => {
+                self.tell_unknown(Wanted::Value, count)?;
+                Ok(Outcome::Faulty)
+            }
+        }
+    }
+
     /// Faulty, as what a name stands for needs itself.
-    pub fn cyclic(&mut self, count: usize) -> Result<Outcome, AllocError> {
+    pub fn cyclic(&mut self, count: usize) -> Result<Outcome, AllocError>
+        ensures answer { IfOk result (λ o. o ≡ Outcome.Faulty) }
+        ensures stack { stack self.new ≡ stack self.old }
+    {
         let outcome = self.faulty(Rule::Cycle, count, "needs itself")?;
         if let Some(named) = self.place_of_declaration(count) {
             self.refer(named)?;
@@ -118,7 +153,9 @@ impl<'t> Expressions<'t> {
     }
 
     /// The number of tokens up to the name that declares what a name stands for.
-    fn place_of_declaration(&self, count: usize) -> Option<usize> {
+    fn place_of_declaration(&self, count: usize) -> Option<usize>
+        ensures { result ≡ declaration_of (context self.now) (meaning_at (context self.now) count) }
+    {
         match self.meaning(count) {
             Meaning::Local(index) => Some(self.locals.get(index)?.bound.named),
             Meaning::Declared(index) | Meaning::Unread(index) => self.declared.get(index)?.named,
@@ -138,21 +175,37 @@ impl<'t> Expressions<'t> {
         }
     }
 
-    fn value_of_local(&mut self, index: usize, count: usize) -> Result<Outcome, AllocError> {
-        let (from, to) = self.skipped;
-        if from <= index && index < to {
+    fn value_of_local(&mut self, index: usize, count: usize) -> Result<Outcome, AllocError>
+        ensures answer { IfOk result (IsValue (value_of_local (context self.old) index)) }
+        ensures stack { stack self.new ≡ stack self.old }
+    {
+        if self.is_skipped(index) {
             return self.faulty(Rule::Behaviour, count, "is declared behind a `continue`");
         }
-        match self.locals.get(index) {
-            Some(local) => match &local.bound.typed {
-                Some(typed) => Ok(Outcome::Typed(typed.clone(self.alloc)?)),
-                None => Ok(Outcome::Faulty),
-            },
+        match self.local_at(index) {
+            Some(typed) => Ok(Outcome::Typed(typed.clone(self.alloc)?)),
             None => Ok(Outcome::Faulty),
         }
     }
 
-    fn value_declared(&mut self, index: usize, count: usize) -> Result<Outcome, AllocError> {
+    /// Whether a `continue` may skip the declaration of the function with an index.
+    fn is_skipped(&self, index: usize) -> bool
+        ensures { result ≡ is_skipped self.now.skipped index }
+    {
+        self.skipped.0 <= index && index < self.skipped.1
+    }
+
+    /// What the declaration of the function with an index stands for, if it has no fault.
+    fn local_at(&self, index: usize) -> Option<&Typed>
+        ensures { option_map (λ x. x.now) result ≡ option_and_then (λ l. l.bound.typed) (local_of (context self.now) index) }
+    {
+        self.locals.get(index)?.bound.typed.as_ref()
+    }
+
+    fn value_declared(&mut self, index: usize, count: usize) -> Result<Outcome, AllocError>
+        ensures answer { IfOk result (IsValue (value_of_known (known_of self.old.declared.items index))) }
+        ensures stack { stack self.new ≡ stack self.old }
+    {
         match self.known_at(index) {
             Some(Known::Value(typed)) => {
                 let typed = typed.clone(self.alloc)?;
@@ -174,7 +227,10 @@ impl<'t> Expressions<'t> {
     }
 
     /// Takes the type on top, with its tokens; None if it has a fault.
-    pub fn take_type(&mut self) -> Result<(Place, Option<Type>), AllocError> {
+    pub fn take_type(&mut self) -> Result<(Place, Option<Type>), AllocError>
+        ensures ty { IfOk result (λ found. IsTypeOnTop (stack self.old) found.1) }
+        ensures rest { IfOk result (λ found. stack self.new ≡ below_type (stack self.old)) }
+    {
         match self.items.pop() {
             Some(Item::Name(count)) => {
                 let ty = self.type_named(count)?;
@@ -182,12 +238,8 @@ impl<'t> Expressions<'t> {
             }
             Some(Item::Listed(place, listed)) => Ok((place, self.type_listed(place, listed)?)),
             Some(Item::Part(part)) => {
-                if !matches!(part.outcome, Outcome::Faulty) {
-                    self.tell(Rule::Name, part.place, "this is no type")?;
-                }
                 let place = part.place;
-                self.parts.push(part)?;
-                Ok((place, None))
+                Ok((place, self.no_type(part)?))
             }
             Some(other) => {
                 self.items.push(other)?;
@@ -197,7 +249,11 @@ impl<'t> Expressions<'t> {
         }
     }
 
-    fn type_listed(&mut self, place: Place, listed: Listed) -> Result<Option<Type>, AllocError> {
+    /// The type that a name with a list stands for; None where it is a function, which is told.
+    pub fn type_listed(&mut self, place: Place, listed: Listed) -> Result<Option<Type>, AllocError>
+        ensures answer { IfOk result (λ ty. option_map view ty ≡ type_listed listed) }
+        ensures stack { stack self.new ≡ stack self.old }
+    {
         match listed {
             Listed::Type(ty) => Ok(ty),
             Listed::Function(_, ty) => {
@@ -210,7 +266,10 @@ impl<'t> Expressions<'t> {
     }
 
     /// The type that a name without a list stands for.
-    pub fn type_named(&mut self, count: usize) -> Result<Option<Type>, AllocError> {
+    pub fn type_named(&mut self, count: usize) -> Result<Option<Type>, AllocError>
+        ensures answer { IfOk result (λ ty. option_map view ty ≡ type_named (context self.old) count) }
+        ensures stack { stack self.new ≡ stack self.old }
+    {
         match self.meaning(count) {
             Meaning::Local(_) => self.nothing(Rule::Name, count, "is a value, and no type"),
             Meaning::Unread(_) => {
@@ -230,7 +289,11 @@ impl<'t> Expressions<'t> {
         }
     }
 
-    fn type_predeclared(&mut self, count: usize) -> Result<Option<Type>, AllocError> {
+    /// The type that WGSL predeclares by a name without a template list; None where it has a fault, which is told.
+    pub fn type_predeclared(&mut self, count: usize) -> Result<Option<Type>, AllocError>
+        ensures answer { IfOk result (λ ty. option_map view ty ≡ type_predeclared self.old.extensions.f16 (word_in (context self.old) count)) }
+        ensures stack { stack self.new ≡ stack self.old }
+    {
         let Some(named) = predeclared_type(self.word(count)) else {
             self.tell_unknown(Wanted::Type, count)?;
             return Ok(None);
@@ -245,7 +308,9 @@ impl<'t> Expressions<'t> {
     }
 
     /// The type that a predeclared name stands for without a list.
-    fn leaf(&self, named: PredeclaredType) -> Result<Option<Type>, AllocError> {
+    fn leaf(&self, named: PredeclaredType) -> Result<Option<Type>, AllocError>
+        ensures { IfOk result (λ ty. option_map view ty ≡ type_without_list named) }
+    {
         Ok(match named {
             PredeclaredType::Scalar(scalar) => Some(Type::from(scalar)),
             PredeclaredType::Vec(n, scalar) => {
@@ -255,15 +320,17 @@ impl<'t> Expressions<'t> {
                 Some(Type::matrix(self.alloc, c, r, Type::from(scalar))?)
             }
             PredeclaredType::Sampler(sampler) => Some(Type::Sampler(sampler)),
-            PredeclaredType::Texture(texture) => { texture_type(texture, TextureParameters::None) }
-            PredeclaredType::Layer(_)
-            | PredeclaredType::RayQuery
-            | PredeclaredType::AccelerationStructure => None,
+            PredeclaredType::Texture(texture) => texture_type(texture, TextureParameters::None),
+            PredeclaredType::RayQuery => Some(Type::RayQuery(None)),
+            PredeclaredType::AccelerationStructure => Some(Type::AccelerationStructure(None)),
+            PredeclaredType::Layer(_) => None,
         })
     }
 
     /// Notes what only some stages do.
-    pub fn only_in(&mut self, stages: Stages, place: Place) -> Result<(), AllocError> {
+    pub fn only_in(&mut self, stages: Stages, place: Place) -> Result<(), AllocError>
+        ensures stack { stack self.new ≡ stack self.old }
+    {
         if let Some(doing) = &mut self.doing {
             if stages != Stages::All {
                 doing.staged.push((stages, place))?;
@@ -274,22 +341,36 @@ impl<'t> Expressions<'t> {
 }
 
 /// What a predeclared name of a type stands for, if WGSL has the type, and a text can name it.
-pub fn predeclared_type(name: &str) -> Option<PredeclaredType> {
-    match predeclared(name)? {
-        PredeclaredType::Scalar(scalar) if Type::from(scalar).is_abstract() => None,
-        PredeclaredType::Layer(LayerName::Reference) => None,
-        PredeclaredType::Texture(
-            TextureName::Sampled1DArray
-            | TextureName::Multisampled2DArray
-            | TextureName::Storage1DArray,
-        ) => None,
-        named if named.is_naga_only() => None,
-        named => Some(named),
+pub fn predeclared_type(name: &str) -> Option<PredeclaredType>
+    ensures { result ≡ type_called name.now }
+{
+    let named = predeclared(name)?;
+    if is_unnamed(named) || named.is_naga_only() {
+        return None;
     }
+    Some(named)
+}
+
+/// Whether no text can name it, or WGSL doesn't have it.
+fn is_unnamed(named: PredeclaredType) -> bool
+    ensures { result ≡ is_unnamed named }
+{
+    matches!(
+        named,
+        PredeclaredType::Scalar(Scalar::AbstractInt | Scalar::AbstractFloat)
+            | PredeclaredType::Layer(LayerName::Reference)
+            | PredeclaredType::Texture(
+                TextureName::Sampled1DArray
+                    | TextureName::Multisampled2DArray
+                    | TextureName::Storage1DArray
+            )
+    )
 }
 
 /// The texture type with a name and parameters, if the name takes these.
-pub fn texture_type(texture: TextureName, parameters: TextureParameters) -> Option<Type> {
+pub fn texture_type(texture: TextureName, parameters: TextureParameters) -> Option<Type>
+    ensures { option_map view result ≡ option_map a_texture (texture_with texture parameters) }
+{
     Some(Type::Texture(texture.with(parameters)?))
 }
 

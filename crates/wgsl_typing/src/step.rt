@@ -1,4 +1,7 @@
 // What is done where a part of an expression is noted.
+ghost use Rattle.std.specs.Prelude.{◌≡◌, IfOk};
+ghost use Rattle.wgsl_typing.specs.Stacks.{stack};
+ghost use Rattle.wgsl_typing.specs.Steps.{StepIf, is_of_expressions, is_round};
 
 use crate::expressions::Expressions;
 use crate::item::Item;
@@ -8,8 +11,11 @@ use wgsl_reader::mark::Mark;
 use wgsl_reader::read::Event;
 
 impl<'t> Expressions<'t> {
-    /// Does what an event says. Returns whether it is one of expressions and types.
-    pub fn step(&mut self, event: Event) -> Result<bool, AllocError> {
+    /// Does what an event says whose last token is of this kind. Returns whether it is one of expressions and types.
+    pub fn step(&mut self, word: Kind, event: Event) -> Result<bool, AllocError>
+        ensures answer { IfOk result (λ is. is ≡ is_of_expressions word event.mark) }
+        ensures step { IfOk result (λ is. StepIf is event.mark event.at (stack self.old) (stack self.new)) }
+    {
         let count = event.at;
         match event.mark {
             Mark::Name => self.push(Item::Name(count))?,
@@ -23,8 +29,13 @@ impl<'t> Expressions<'t> {
             Mark::Binary => self.put_binary()?,
             Mark::MemberOf => self.put_member(count)?,
             Mark::Element => self.put_element(count)?,
-            Mark::Open if self.token_before(count).kind == Kind::OpenRound => self.open_call()?,
-            Mark::Argument if self.is_in_call() => self.put_argument()?,
+            Mark::Open => {
+                if !is_round(word) {
+                    return Ok(false);
+                }
+                self.open_call()?;
+            }
+            Mark::Argument => self.put_argument()?,
             Mark::Call => self.put_call(count)?,
             Mark::Typed => self.put_declared_type()?,
             Mark::Initialized => self.put_initializer()?,
@@ -32,9 +43,11 @@ impl<'t> Expressions<'t> {
         }
         Ok(true)
     }
+}
 
-    /// Whether the operand on top is an argument of a call.
-    fn is_in_call(&self) -> bool {
-        matches!(self.items.as_slice(), [.., Item::Call(_, _), _])
-    }
+/// Whether it is the `(` of a call, and no `{` of a block.
+fn is_round(word: Kind) -> bool
+    ensures { result ≡ is_round word }
+{
+    matches!(word, Kind::OpenRound)
 }

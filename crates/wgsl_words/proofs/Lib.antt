@@ -1,9 +1,6 @@
+pub mod Common
 pub mod Cuts
-pub mod FirstWord
 pub mod Numbers
 pub mod OneReply
-pub mod Parameters
 pub mod Reading
-pub mod Signs
-pub mod Suffixes
 pub mod Within

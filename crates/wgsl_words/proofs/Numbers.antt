@@ -1,13 +1,12 @@
--- What parsing gives is what the digits count.
-use Rattle.std.proofs.Common.{◌≡◌, ◌≢◌, ◌<◌, ◌^◌, ℕ, Bool, true, false, ltb, List, [], ◌∷◌, length, Some, None, Result, Ok, Err, refl, sym, ap, arith, rules}
-use Rattle.std.specs.Prelude.{slice_index}
-use Rattle.std.specs.Result.{OkIff, result_ok}
-use Rattle.std.specs.Str.{all_ascii_digits}
-use Rattle.std.specs.Str.Parse.{ParsesUnsigned, digits_value}
-use Rattle.std.proofs.lemmas.Bool.{ltb-true, lt-ltb}
+-- What parsing gives is what the digits count, with a sign or without, and with a suffix or without.
+use Rattle.wgsl_words.proofs.Common.{◌≡◌, ◌≢◌, ◌<◌, ◌^◌, ℕ, Bool, true, false, ltb, List, [], ◌∷◌, length, Some, None, Result, Ok, Err, refl, sym, ap, arith}
+use Rattle.wgsl_words.proofs.Common.{rules, slice_index, OkIff, result_ok, all_ascii_digits, ltb-true, lt-ltb, number_below, has_bytes, ◌==◌, ℤ, pos, negsuc}
+use Rattle.wgsl_words.proofs.Common.{neg_ℤ, cond, drop, FitsSigned, subst, ◌∙◌, Width, nat_eq, codes, option_map, ends_with}
+use Rattle.std.specs.Str.Parse.{ParsesUnsigned, digits_value, IsNumeral, ParsesSigned, signed_digits_value, starts_with_minus, without_leading_plus, without_leading_sign}
 use Rattle.std.proofs.lemmas.Str.Parse.{IsNumeralModel, numerals_by_value, parse_plain}
-use Rattle.wgsl_words.specs.Numbers.{number_below}
-use Rattle.wgsl_words.specs.Words.{has_bytes}
+use mir.Val.{hbits}
+use Rattle.wgsl_words.specs.Templates.{signed_below, value, within, without_minus, before, number, short_number}
+use Rattle.wgsl_rules.specs.types.Literals.{abstract_int}
 
 pub plus_is_none : (limit : ℕ) (word : List ℕ) → slice_index word 0 ≡ 43 → number_below limit word ≡ None
 plus_is_none limit [] e = refl
@@ -40,3 +39,57 @@ below limit word (Err e) h = sym (none_below limit word h)
 -- of a word without a plus in front
 pub parsed : {E : Type 0} (k : ℕ) (word : List ℕ) (r : Result ℕ E) → ParsesUnsigned k 10 word r → slice_index word 0 ≢ 43 → result_ok r ≡ number_below (2 ^ k) word
 parsed k word r h plain = below (2 ^ k) word r (parse_plain digits k word r h plain)
+
+pub plus_is_no_sign : (limit : ℕ) (word : List ℕ) → slice_index word 0 ≡ 43 → signed_below limit word ≡ None
+plus_is_no_sign limit [] e = refl
+plus_is_no_sign limit (c ∷ cs) e = let is : c ≡ 43 = e in rw is refl
+
+no_plus : (word : List ℕ) → slice_index word 0 ≢ 43 → without_leading_plus word ≡ word
+no_plus [] plain = refl
+no_plus (c ∷ cs) plain = by (c == 43) refl
+  where
+    by : (b : Bool) → (c == 43) ≡ b → without_leading_plus (c ∷ cs) ≡ c ∷ cs
+    by true e = absurd (plain (grind (arith, e)))
+    by false e = rw e refl
+
+module _ (w : Width) (word : List ℕ) (plain : slice_index word 0 ≢ 43) where
+  sign_is : without_leading_sign word ≡ without_minus word
+  sign_is = ap (λ ds. cond (starts_with_minus word) (drop 1 word) ds) (no_plus word plain)
+
+  value_is : signed_digits_value 10 word ≡ value word
+  value_is = ap (λ ds. cond (starts_with_minus word) (neg_ℤ (pos (digits_value 10 ds))) (pos (digits_value 10 ds))) sign_is
+
+  fits_within : (v : ℤ) → FitsSigned w v → within (2 ^ hbits w) v ≡ true
+  fits_within (pos n) f = lt-ltb _ _ f.sfits
+  fits_within (negsuc n) f = lt-ltb _ _ f.sfits
+
+  within_fits : (v : ℤ) → within (2 ^ hbits w) v ≡ true → FitsSigned w v
+  within_fits (pos n) e = record { sfits = ltb-true _ _ e }
+  within_fits (negsuc n) e = record { sfits = ltb-true _ _ e }
+
+  none_signed : ¬ (IsNumeral 10 (without_minus word) × FitsSigned w (value word)) → signed_below (2 ^ hbits w) word ≡ None
+  none_signed not_all = step (has_bytes (without_minus word)) (all_ascii_digits (without_minus word)) (within (2 ^ hbits w) (value word)) refl refl refl
+    where
+      step : (a b c : Bool) → has_bytes (without_minus word) ≡ a → all_ascii_digits (without_minus word) ≡ b → within (2 ^ hbits w) (value word) ≡ c → signed_below (2 ^ hbits w) word ≡ None
+      step true true true d e f = absurd (not_all ((if_bytes _ d, digits.to _ e), within_fits _ f))
+      step true true false d e f = rw (d, e, f) refl
+      step true false c d e f = rw (d, e) refl
+      step false b c d e f = rw d refl
+
+  pub signed_parsed : {E : Type 0} (r : Result ℤ E) → ParsesSigned w 10 word r → result_ok r ≡ signed_below (2 ^ hbits w) word
+  signed_parsed (Ok x) h =
+      let n : IsNumeral 10 (without_minus word) = subst (IsNumeral 10) sign_is h.0.0 in
+      let f : FitsSigned w (value word) = subst (FitsSigned w) value_is h.0.1 in
+      rw (bytes_if _ n.0, digits.from _ n.1, fits_within _ f) (ap Some (h.1 ∙ value_is))
+  signed_parsed (Err e) h = sym (none_signed (λ all. h (subst (IsNumeral 10) (sym sign_is) all.0, subst (FitsSigned w) (sym value_is) all.1)))
+
+pub no_before : (suffix word : List ℕ) → false ≡ ends_with nat_eq word suffix → before suffix word ≡ None
+no_before suffix word e = rw (← e) refl
+
+pub no_short_suffix : (word : List ℕ) → before (codes "i") word ≡ None → before (codes "u") word ≡ None → short_number word ≡ option_map abstract_int (signed_below 9223372036854775808 word)
+unfolding short_number
+no_short_suffix word e f = rw (e, f) refl
+
+pub no_long_suffix : (word : List ℕ) → before (codes "li") word ≡ None → before (codes "lu") word ≡ None → number word ≡ short_number word
+unfolding number
+no_long_suffix word e f = rw (e, f) refl

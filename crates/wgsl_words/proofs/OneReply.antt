@@ -1,12 +1,10 @@
 -- A line has one reply, if every request has an answer.
-use Rattle.std.proofs.Common.{◌≡◌, ℕ, List, [], ◌∷◌}
+use Rattle.wgsl_words.proofs.Common.{◌≡◌, ℕ, List, [], ◌∷◌, Words, words_of}
 use Rattle.wgsl_requests.specs.Replies.{ReplyText}
 use Rattle.wgsl_requests.proofs.HasOne.{HasOne, known}
 use Rattle.wgsl_requests.proofs.OneReply.{EachAnswered, one_of_line, one_reply_of}
-use Rattle.wgsl_words.specs.Reader.{Words}
 use Rattle.wgsl_words.specs.Replies.{IsReplyToLine, IsReplyToWords}
 use Rattle.wgsl_words.specs.Requests.{request_of}
-use Rattle.wgsl_words.specs.Words.{words_of}
 
 one_to_words : (words : Words) → HasOne EachAnswered (IsReplyToWords words)
 one_to_words [] = known _

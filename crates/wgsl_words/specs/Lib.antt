@@ -1,6 +1,4 @@
-pub mod Answers
-pub mod Calls
-pub mod Layers
+pub mod Prelude
 pub mod Left
 pub mod Names
 pub mod Numbers

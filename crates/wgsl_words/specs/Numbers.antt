@@ -1,7 +1,6 @@
 -- What a word counts.
-use Rattle.std.specs.Prelude.{ℕ, ◌^◌, ◌&&◌, List, Option, Some, None, codes, if◌then◌else◌, nat_lt, option_map}
-use Rattle.std.specs.Str.{all_ascii_digits, bytes_eq}
-use Rattle.std.specs.Str.Parse.{digits_value}
+use Rattle.std.specs.Prelude.{ℕ, ◌^◌, ◌&&◌, List, Option, Some, None, codes, if◌then◌else◌, nat_lt, option_map, bytes_eq}
+use Rattle.wgsl_words.specs.Prelude.{all_ascii_digits, digits_value}
 use Rattle.wgsl_words.specs.Words.{has_bytes}
 
 -- decimal digits, with leading zeros or without, of a number below the limit

@@ -1,14 +1,14 @@
--- Requests in words.
-use Rattle.std.specs.Prelude.{ℕ, List, [], ◌∷◌, Option, Some, None, codes, option_and_then, option_map}
-use Rattle.wgsl_syntax.specs.Names.{named}
+-- Requests in words, and how calls and structs that were read are seen.
+use Rattle.std.specs.Prelude.{ℕ, List, [], ◌∷◌, Option, Some, None, codes, option_and_then, option_map, map}
+use Rattle.wgsl_words.specs.Prelude.{named, Signature, WgslType, struct, Members, WgslRequest as Request, rank, common, unary, binary, size, offsets, layout}
+use Rattle.wgsl_words.specs.Prelude.{ctor, call, parameter_view, struct_view, view}
 use Rattle.wgsl_syntax.specs.declared.rules.RuleSet.TheVariants.{Ported}
-use Rattle.wgsl_rules.specs.types.Signatures.{Signature}
-use Rattle.wgsl_rules.specs.types.Types.{WgslType, struct, Members}
-use Rattle.wgsl_requests.specs.Requests.{WgslRequest as Request, rank, common, unary, binary, size, offsets, layout, ctor, call}
 use Rattle.wgsl_words.specs.Names.{binary_named, unary_named}
 use Rattle.wgsl_words.specs.Reader.{Words, a_word, all, behind, last, one, pair}
 use Rattle.wgsl_words.specs.Templates.{template_at}
 use Rattle.wgsl_words.specs.Types.{type_at}
+use Rattle.wgsl_core.specs.declared.ty.StructType.{StructType}
+use Rattle.wgsl_words.specs.declared.command.ReadCall.{ReadCall}
 
 abbrev pub of_struct : (List ℕ → Members → Request) → WgslType → Option Request
 of_struct ask (struct name ms) = Some (ask name ms)
@@ -55,3 +55,18 @@ request_from command words = request_by (named commands command) words
 abbrev pub request_of : Words → Option Request
 request_of [] = None
 request_of (command ∷ words) = request_from command words
+
+abbrev pub call_view : ReadCall → Signature
+call_view c = record {
+  name = c.name.now;
+  template = option_map (λ ps. map parameter_view ps.items) c.template;
+  arguments = map view c.arguments.items;
+}
+
+-- a struct as a type
+abbrev pub struct_in : StructType → WgslType
+struct_in s = let seen = struct_view s in struct seen.name seen.members
+
+abbrev pub a_struct : WgslType → Option WgslType
+a_struct (struct name ms) = Some (struct name ms)
+a_struct t = None

@@ -1,14 +1,11 @@
 -- Literals and templates in words.
-use Rattle.std.specs.Prelude.{ℕ, zero, suc, ℤ, ◌-◌, ◌^◌, ◌&&◌, Bool, true, false, List, [], ◌∷◌, Option, Some, None, codes, drop, if◌then◌else◌, length, nat_lt, neg_ℤ, negsuc, option_and_then, option_map, pos, take, nat_eq}
+use Rattle.std.specs.Prelude.{ℕ, zero, suc, ℤ, ◌-◌, ◌^◌, ◌&&◌, Bool, true, false, List, [], ◌∷◌, Option, Some, None, codes, drop, if◌then◌else◌, length, nat_lt, neg_ℤ, negsuc, option_and_then, option_map, pos, take, nat_eq, bytes_eq}
 use Rattle.std.specs.List.{ends_with}
-use Rattle.std.specs.Str.{all_ascii_digits, bytes_eq}
-use Rattle.std.specs.Str.Parse.{digits_value, starts_with_minus}
-use Rattle.wgsl_syntax.specs.declared.address.AddressSpace.{AddressSpace}
+use Rattle.wgsl_words.specs.Prelude.{all_ascii_digits, digits_value, starts_with_minus, AddressSpace, Parameter, of_type, of_literal, of_enumerant}
 use Rattle.wgsl_syntax.specs.declared.address.AddressSpace.TheVariants.{Handle}
 use Rattle.wgsl_syntax.specs.declared.enumerant.Enumerant.{Enumerant}
 use Rattle.wgsl_syntax.specs.declared.enumerant.Enumerant.TheVariants as enumerants
 use Rattle.wgsl_rules.specs.types.Literals.{Literal, bool, abstract_int, i32, u32, i64, u64}
-use Rattle.wgsl_rules.specs.types.Signatures.{Parameter, of_type, of_literal, of_enumerant}
 use Rattle.wgsl_words.specs.Names.{access_named, some_flag_named, space_named, texel_named}
 use Rattle.wgsl_words.specs.Numbers.{long, medium}
 use Rattle.wgsl_words.specs.Reader.{Reader, ◌>>=◌, ◌<$>◌, a_word, nothing, one, one_of, pure}

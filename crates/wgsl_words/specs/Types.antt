@@ -1,23 +1,16 @@
--- Types in words.
-use Rattle.std.specs.Prelude.{ℕ, zero, suc, List, [], ◌∷◌, Option, Some, None, codes, if◌then◌else◌, length}
-use Rattle.std.specs.Str.{bytes_eq}
-use Rattle.wgsl_syntax.specs.Names.{named}
-use Rattle.wgsl_syntax.specs.TextureName.{parameter_kind, texture_with}
-use Rattle.wgsl_syntax.specs.declared.address.AccessMode.{AccessMode}
-use Rattle.wgsl_syntax.specs.declared.address.AddressSpace.{AddressSpace}
-use Rattle.wgsl_syntax.specs.declared.around.Around.{Around}
+-- Types in words, and the layers around them.
+use Rattle.std.specs.Prelude.{ℕ, zero, suc, List, [], ◌∷◌, Option, Some, None, codes, if◌then◌else◌, length, bytes_eq, ◌≡◌, Result, Ok, Err}
+use Rattle.wgsl_words.specs.Prelude.{named, parameter_kind, texture_with, AccessMode, AddressSpace, Around, around, WgslType, scalar, struct, texture, sampler}
+use Rattle.wgsl_words.specs.Prelude.{ray_query, acceleration_structure, Member, members_of, Fail, Misfit}
 use Rattle.wgsl_syntax.specs.declared.around.Around.TheVariants.{Array, Vec, Mat, BindingArray, Atomic, Ptr, Ref}
 use Rattle.wgsl_syntax.specs.declared.texture.TextureType.{TextureType}
 use Rattle.wgsl_syntax.specs.declared.texture_name.TextureParameterKind.{TextureParameterKind}
 use Rattle.wgsl_syntax.specs.declared.texture_name.TextureParameterKind.TheVariants as kinds
 use Rattle.wgsl_syntax.specs.declared.texture_name.TextureParameters.{TextureParameters}
 use Rattle.wgsl_syntax.specs.declared.texture_name.TextureParameters.TheVariants as parameters
-use Rattle.wgsl_rules.specs.types.Around.{around}
-use Rattle.wgsl_rules.specs.types.Types.{WgslType, scalar, struct, texture, sampler, ray_query, acceleration_structure}
-use Rattle.wgsl_core.specs.View.{Member, members_of}
 use Rattle.wgsl_words.specs.Names.{access_named, flag_named, sampled_named, sampler_named, scalar_named, space_named, texel_named, texture_named}
 use Rattle.wgsl_words.specs.Numbers.{attribute, count, long, small}
-use Rattle.wgsl_words.specs.Reader.{Reader, ◌>>=◌, ◌<$>◌, a_word, pure, means, one, optional, or_else, times}
+use Rattle.wgsl_words.specs.Reader.{Reader, ◌>>=◌, ◌<$>◌, a_word, pure, means, one, optional, or_else, times, Misses, Words}
 
 -- two words
 abbrev both : {A B C : Type 0} → (A → B → C) → Reader A → Reader B → Reader C
@@ -125,3 +118,14 @@ type_within (suc n) = a_word >>= type_from (type_within n)
 
 unfoldable pub type_at : Reader WgslType
 type_at words = type_within (length words) words
+
+-- the layers around a type, the last innermost
+abbrev pub wrapped : List Around → WgslType → WgslType
+wrapped [] t = t
+wrapped (layer ∷ layers) t = around layer (wrapped layers t)
+
+-- A layer is read that begins with the word, or none since there is none, or no room for it.
+abbrev pub ReadsNext : List ℕ → Words → Words → Result (Option Around) (Fail Misfit) → Type 0
+ReadsNext word before after (Ok (Some layer)) = optional (layer_named word) before ≡ Some (Some layer, after)
+ReadsNext word before after (Ok None) = after ≡ before
+ReadsNext word before after (Err e) = Misses e (optional (layer_named word) before)

@@ -1,7 +1,6 @@
 -- The words of a request.
-use Rattle.std.specs.Prelude.{◌≡◌, ◌<◌, ◌≤◌, ℕ, ◌||◌, if◌then◌else◌, Bool, true, false, nat_eq, List, [], ◌∷◌, Option, IfSome, MatchOption, drop, filter, length}
+use Rattle.std.specs.Prelude.{◌≡◌, ◌<◌, ◌≤◌, ℕ, ◌||◌, if◌then◌else◌, Bool, true, false, nat_eq, List, [], ◌∷◌, Option, IfSome, MatchOption, drop, filter, length, IsCharBoundary}
 use Rattle.std.specs.Borrow.{Bor}
-use Rattle.std.specs.Str.{IsCharBoundary}
 
 -- a space, a tab and a carriage return separate words, and nothing else does
 abbrev pub is_separator : ℕ → Bool

@@ -1,15 +1,14 @@
 // What is answered to each command.
-ghost use Rattle.std.specs.Prelude.{◌≡◌, codes, option_and_then, string_bytes};
+ghost use Rattle.std.specs.Prelude.{◌≡◌, codes, option_and_then};
 ghost use Rattle.wgsl_calls.specs.Calls.{signature_of};
-ghost use Rattle.wgsl_words.specs.Answers.{Answers};
-ghost use Rattle.wgsl_words.specs.Calls.{a_struct, call_view, struct_in};
+ghost use Rattle.wgsl_words.specs.Replies.{Answers};
+ghost use Rattle.wgsl_words.specs.Requests.{a_struct, call_view, struct_in, callee, request_from};
 ghost use Rattle.wgsl_words.specs.Reader.{Gives, last};
-ghost use Rattle.wgsl_words.specs.Requests.{callee, request_from};
 ghost use Rattle.wgsl_words.specs.Types.{type_at};
 
 use crate::read::{read_last_type, read_pair, read_types};
 use crate::template::read_template;
-use crate::wanted::{Misfit, Wanted};
+use crate::wanted::{Misfit, Read, Wanted};
 use crate::words::{Words, wanted};
 use std::alloc::Global;
 use wgsl_core::error::Fail;
@@ -26,14 +25,13 @@ use wgsl_types::typed::typed_lines;
 /// Writes the answer to the command and the words behind it at the end of the text.
 #[inline(always)]
 #[tactic(auto, unfolding(crate::specs::Requests::request_from))]
-pub(crate) fn write_answer(
+pub fn write_answer(
     alloc: Global,
     command: &str,
     words: &mut Words,
     text: &mut String,
-) -> Result<TextKind, Fail<Misfit>>
-    ensures { Answers (request_from command.now words.old)
-        (string_bytes text.old) (string_bytes text.new) result }
+) -> Read<TextKind>
+    ensures { Answers (request_from command.now words.old) text.old text.new result }
 {
     match command {
         "rank" => rank(alloc, words, text),
@@ -51,9 +49,8 @@ pub(crate) fn write_answer(
 
 /// `rank T U`: the rank of the conversion.
 #[tactic(auto, unfolding(crate::specs::Requests::request_from))]
-fn rank(alloc: Global, words: &mut Words, text: &mut String) -> Result<TextKind, Fail<Misfit>>
-    ensures { Answers (request_from (codes "rank") words.old)
-        (string_bytes text.old) (string_bytes text.new) result }
+fn rank(alloc: Global, words: &mut Words, text: &mut String) -> Read<TextKind>
+    ensures { Answers (request_from (codes "rank") words.old) text.old text.new result }
 {
     let types = read_pair(alloc, words)?;
     let written = write_answer_to(alloc, Request::Rank(&types.0, &types.1), text);
@@ -64,9 +61,8 @@ fn rank(alloc: Global, words: &mut Words, text: &mut String) -> Result<TextKind,
 /// `common T..`: the type that all have once they are converted together, or `none` if there is none, or if one of them
 /// doesn't convert to it.
 #[tactic(auto, unfolding(crate::specs::Requests::request_from))]
-fn common(alloc: Global, words: &mut Words, text: &mut String) -> Result<TextKind, Fail<Misfit>>
-    ensures { Answers (request_from (codes "common") words.old)
-        (string_bytes text.old) (string_bytes text.new) result }
+fn common(alloc: Global, words: &mut Words, text: &mut String) -> Read<TextKind>
+    ensures { Answers (request_from (codes "common") words.old) text.old text.new result }
 {
     let values = typed_lines(alloc, read_types(alloc, words)?)?;
     let written = write_common(alloc, RuleSet::Ported, &values, text);
@@ -76,9 +72,8 @@ fn common(alloc: Global, words: &mut Words, text: &mut String) -> Result<TextKin
 
 /// `unary OP T`: the type of the expression, or why it has none.
 #[tactic(auto, unfolding(crate::specs::Requests::request_from, crate::specs::Names::unary_named))]
-fn unary(alloc: Global, words: &mut Words, text: &mut String) -> Result<TextKind, Fail<Misfit>>
-    ensures { Answers (request_from (codes "unary") words.old)
-        (string_bytes text.old) (string_bytes text.new) result }
+fn unary(alloc: Global, words: &mut Words, text: &mut String) -> Read<TextKind>
+    ensures { Answers (request_from (codes "unary") words.old) text.old text.new result }
 {
     let operator = unary_named(words.next(Wanted::UnaryOperator)?);
     let operator = wanted(operator, Wanted::UnaryOperator)?;
@@ -90,9 +85,8 @@ fn unary(alloc: Global, words: &mut Words, text: &mut String) -> Result<TextKind
 
 /// `binary OP T U`: the type of the expression, or why it has none.
 #[tactic(auto, unfolding(crate::specs::Requests::request_from, crate::specs::Names::binary_named))]
-fn binary(alloc: Global, words: &mut Words, text: &mut String) -> Result<TextKind, Fail<Misfit>>
-    ensures { Answers (request_from (codes "binary") words.old)
-        (string_bytes text.old) (string_bytes text.new) result }
+fn binary(alloc: Global, words: &mut Words, text: &mut String) -> Read<TextKind>
+    ensures { Answers (request_from (codes "binary") words.old) text.old text.new result }
 {
     let operator = binary_named(words.next(Wanted::BinaryOperator)?);
     let operator = wanted(operator, Wanted::BinaryOperator)?;
@@ -104,9 +98,8 @@ fn binary(alloc: Global, words: &mut Words, text: &mut String) -> Result<TextKin
 
 /// `size T`: the size and the alignment.
 #[tactic(auto, unfolding(crate::specs::Requests::request_from))]
-fn size(alloc: Global, words: &mut Words, text: &mut String) -> Result<TextKind, Fail<Misfit>>
-    ensures { Answers (request_from (codes "size") words.old)
-        (string_bytes text.old) (string_bytes text.new) result }
+fn size(alloc: Global, words: &mut Words, text: &mut String) -> Read<TextKind>
+    ensures { Answers (request_from (codes "size") words.old) text.old text.new result }
 {
     let ty = read_last_type(alloc, words)?;
     let written = write_answer_to(alloc, Request::Size(RuleSet::Ported, &ty), text);
@@ -116,9 +109,8 @@ fn size(alloc: Global, words: &mut Words, text: &mut String) -> Result<TextKind,
 
 /// `offsets T` for a struct T: the offset of each member.
 #[tactic(auto, unfolding(crate::specs::Requests::request_from))]
-fn offsets(alloc: Global, words: &mut Words, text: &mut String) -> Result<TextKind, Fail<Misfit>>
-    ensures { Answers (request_from (codes "offsets") words.old)
-        (string_bytes text.old) (string_bytes text.new) result }
+fn offsets(alloc: Global, words: &mut Words, text: &mut String) -> Read<TextKind>
+    ensures { Answers (request_from (codes "offsets") words.old) text.old text.new result }
 {
     let structure = read_struct(alloc, words)?;
     let written = write_answer_to(alloc, Request::Offsets(RuleSet::Ported, &structure), text);
@@ -128,9 +120,8 @@ fn offsets(alloc: Global, words: &mut Words, text: &mut String) -> Result<TextKi
 
 /// `layout T` for a struct T: a report of its members and of the whole.
 #[tactic(auto, unfolding(crate::specs::Requests::request_from))]
-fn layout(alloc: Global, words: &mut Words, text: &mut String) -> Result<TextKind, Fail<Misfit>>
-    ensures { Answers (request_from (codes "layout") words.old)
-        (string_bytes text.old) (string_bytes text.new) result }
+fn layout(alloc: Global, words: &mut Words, text: &mut String) -> Read<TextKind>
+    ensures { Answers (request_from (codes "layout") words.old) text.old text.new result }
 {
     let structure = read_struct(alloc, words)?;
     let written = write_answer_to(alloc, Request::Layout(RuleSet::Ported, &structure), text);
@@ -139,7 +130,7 @@ fn layout(alloc: Global, words: &mut Words, text: &mut String) -> Result<TextKin
 }
 
 /// The struct in the remaining words.
-fn read_struct(alloc: Global, words: &mut Words) -> Result<Box<StructType>, Fail<Misfit>>
+fn read_struct(alloc: Global, words: &mut Words) -> Read<Box<StructType>>
     ensures { Gives (λ s. struct_in s.value) (option_and_then a_struct (last type_at words.old)) result }
 {
     match read_last_type(alloc, words)? {
@@ -153,9 +144,8 @@ fn read_struct(alloc: Global, words: &mut Words) -> Result<Box<StructType>, Fail
 
 /// `ctor NAME P T..`: the type that the constructor makes, or why it makes none.
 #[tactic(auto, unfolding(crate::specs::Requests::request_from))]
-fn ctor(alloc: Global, words: &mut Words, text: &mut String) -> Result<TextKind, Fail<Misfit>>
-    ensures { Answers (request_from (codes "ctor") words.old)
-        (string_bytes text.old) (string_bytes text.new) result }
+fn ctor(alloc: Global, words: &mut Words, text: &mut String) -> Read<TextKind>
+    ensures { Answers (request_from (codes "ctor") words.old) text.old text.new result }
 {
     let call = read_call(alloc, words)?;
     let written = write_answer_to(alloc, Request::Constructor(call.as_named()), text);
@@ -165,9 +155,8 @@ fn ctor(alloc: Global, words: &mut Words, text: &mut String) -> Result<TextKind,
 
 /// `call NAME P T..`: the type of the call, `no value` if it returns none, or why it has no type.
 #[tactic(auto, unfolding(crate::specs::Requests::request_from))]
-fn call(alloc: Global, words: &mut Words, text: &mut String) -> Result<TextKind, Fail<Misfit>>
-    ensures { Answers (request_from (codes "call") words.old)
-        (string_bytes text.old) (string_bytes text.new) result }
+fn call(alloc: Global, words: &mut Words, text: &mut String) -> Read<TextKind>
+    ensures { Answers (request_from (codes "call") words.old) text.old text.new result }
 {
     let call = read_call(alloc, words)?;
     let written = write_answer_to(alloc, Request::Call(call.as_named()), text);
@@ -199,7 +188,7 @@ impl ReadCall<'_> {
 /// A name, a template, and the types of the arguments.
 #[inline(always)]
 #[tactic(auto, unfolding(crate::specs::Requests::callee))]
-fn read_call<'t>(alloc: Global, words: &mut Words<'t>) -> Result<ReadCall<'t>, Fail<Misfit>>
+fn read_call<'t>(alloc: Global, words: &mut Words<'t>) -> Read<ReadCall<'t>>
     ensures { Gives call_view (callee words.old) result }
 {
     let name = words.next(Wanted::Name)?;

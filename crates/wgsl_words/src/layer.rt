@@ -3,16 +3,15 @@ ghost use Rattle.std.specs.Prelude.{◌≡◌, ◌≤◌, OnOk, length};
 ghost use Rattle.wgsl_words.specs.Reader.{Reads, optional};
 ghost use Rattle.wgsl_words.specs.Types.{layer_named, memory_at};
 
-use crate::wanted::{Misfit, Wanted};
+use crate::wanted::{Read, Wanted};
 use crate::words::{Words, wanted};
-use wgsl_core::error::Fail;
 use wgsl_syntax::address::{AccessMode, AddressSpace, access_named, space_named};
 use wgsl_syntax::around::Around;
 
 /// The layer that begins with this word; `None` if none does. It is not inlined, so that words are compared as numbers.
 #[inline(never)]
 #[tactic(auto, unfolding(crate::specs::Types::layer_named))]
-pub(crate) fn read_layer(word: &str, words: &mut Words) -> Result<Option<Around>, Fail<Misfit>>
+pub fn read_layer(word: &str, words: &mut Words) -> Read<Option<Around>>
     ensures shorter { OnOk result (length words.new ≤ length words.old) }
     ensures read { Reads (λ layer. layer) (optional (layer_named word.now) words.old) result words.new }
 {
@@ -43,7 +42,7 @@ pub(crate) fn read_layer(word: &str, words: &mut Words) -> Result<Option<Around>
 
 /// An address space, which may be `handle`, and an access mode.
 #[tactic(auto, unfolding(crate::specs::Types::memory_at, crate::specs::Names::space_named, crate::specs::Names::access_named))]
-fn read_memory(words: &mut Words) -> Result<(AddressSpace, AccessMode), Fail<Misfit>>
+fn read_memory(words: &mut Words) -> Read<(AddressSpace, AccessMode)>
     ensures shorter { OnOk result (length words.new ≤ length words.old) }
     ensures read { Reads (λ memory. memory) (memory_at words.old) result words.new }
 {

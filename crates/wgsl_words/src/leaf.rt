@@ -5,9 +5,8 @@ ghost use Rattle.wgsl_words.specs.Names as names;
 ghost use Rattle.wgsl_words.specs.Reader.{Reads, one};
 ghost use Rattle.wgsl_words.specs.Types.{leaf_from, parameters_at, texture_from};
 
-use crate::wanted::{Misfit, Wanted};
+use crate::wanted::{Read, Wanted};
 use crate::words::{Words, wanted};
-use wgsl_core::error::Fail;
 use wgsl_core::ty::Type;
 use wgsl_syntax::address::access_named;
 use wgsl_syntax::attribute::{AccelerationStructureFlags, flag_named};
@@ -18,7 +17,7 @@ use wgsl_syntax::texture_name::{TextureParameterKind, TextureParameters, texture
 /// A leaf type in words that is no scalar: one of naga's types for rays, a sampler or a texture.
 #[inline(never)]
 #[tactic(auto, unfolding(crate::specs::Types::leaf_from, crate::specs::Types::rays_named, crate::specs::Names::sampler_named))]
-pub(crate) fn read_leaf(word: &str, words: &mut Words) -> Result<Type, Fail<Misfit>>
+pub fn read_leaf(word: &str, words: &mut Words) -> Read<Type>
     ensures shorter { OnOk result (length words.new ≤ length words.old) }
     ensures read { Reads view (leaf_from word.now words.old) result words.new }
 {
@@ -33,7 +32,7 @@ pub(crate) fn read_leaf(word: &str, words: &mut Words) -> Result<Type, Fail<Misf
 }
 
 /// A flag, or `-` for none.
-fn read_flag(words: &mut Words) -> Result<Option<AccelerationStructureFlags>, Fail<Misfit>>
+fn read_flag(words: &mut Words) -> Read<Option<AccelerationStructureFlags>>
     ensures shorter { OnOk result (length words.new ≤ length words.old) }
     ensures read { Reads (λ flag. flag) (one names.flag_named words.old) result words.new }
 {
@@ -53,7 +52,7 @@ fn flag(word: &str) -> Option<Option<AccelerationStructureFlags>>
 
 /// A texture: its name, and its sampled type, or its texel format and access mode.
 #[tactic(auto, unfolding(crate::specs::Types::texture_from, crate::specs::Names::texture_named))]
-fn read_texture(name: &str, words: &mut Words) -> Result<TextureType, Fail<Misfit>>
+fn read_texture(name: &str, words: &mut Words) -> Read<TextureType>
     ensures shorter { OnOk result (length words.new ≤ length words.old) }
     ensures read { Reads (λ texture. texture) (texture_from name.now words.old) result words.new }
 {
@@ -64,10 +63,7 @@ fn read_texture(name: &str, words: &mut Words) -> Result<TextureType, Fail<Misfi
 
 /// The parameters of a texture, of which the kind is known.
 #[tactic(auto, unfolding(crate::specs::Types::parameters_at, crate::specs::Names::sampled_named, crate::specs::Names::texel_named, crate::specs::Names::access_named))]
-fn read_parameters(
-    kind: TextureParameterKind,
-    words: &mut Words,
-) -> Result<TextureParameters, Fail<Misfit>>
+fn read_parameters(kind: TextureParameterKind, words: &mut Words) -> Read<TextureParameters>
     ensures shorter { OnOk result (length words.new ≤ length words.old) }
     ensures read { Reads (λ parameters. parameters) (parameters_at kind words.old) result words.new }
 {

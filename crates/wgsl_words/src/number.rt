@@ -3,14 +3,14 @@ ghost use Rattle.std.specs.Prelude.{◌≡◌, ◌↔◌, IsTrue, slice_index};
 ghost use Rattle.wgsl_words.specs.Numbers as spec;
 
 /// Whether the word begins with a plus, which `parse` reads and no number of a request has.
-pub(crate) fn begins_with_plus(word: &str) -> bool
+pub fn begins_with_plus(word: &str) -> bool
     ensures { IsTrue result ↔ (slice_index word.now 0 ≡ 43) }
 {
     let bytes = word.as_bytes();
     !bytes.is_empty() && bytes[0] == b'+'
 }
 
-pub(crate) fn small(word: &str) -> Option<u8>
+pub fn small(word: &str) -> Option<u8>
     ensures { result ≡ spec.small word.now }
 {
     if begins_with_plus(word) {
@@ -20,7 +20,7 @@ pub(crate) fn small(word: &str) -> Option<u8>
 }
 
 /// A number of at most 32 bits.
-pub(crate) fn medium(word: &str) -> Option<u32>
+pub fn medium(word: &str) -> Option<u32>
     ensures { result ≡ spec.medium word.now }
 {
     if begins_with_plus(word) {
@@ -30,7 +30,7 @@ pub(crate) fn medium(word: &str) -> Option<u32>
 }
 
 /// A number of at most 64 bits.
-pub(crate) fn long(word: &str) -> Option<u64>
+pub fn long(word: &str) -> Option<u64>
     ensures { result ≡ spec.long word.now }
 {
     if begins_with_plus(word) {
@@ -40,26 +40,17 @@ pub(crate) fn long(word: &str) -> Option<u64>
 }
 
 #[tactic(auto, unfolding(crate::specs::Numbers::count))]
-pub(crate) fn count(word: &str) -> Option<Option<usize>>
+pub fn count(word: &str) -> Option<Option<usize>>
     ensures { result ≡ spec.count word.now }
 {
     if word == "*" {
         return Some(None);
     }
-    Some(Some(size(word)?))
-}
-
-fn size(word: &str) -> Option<usize>
-    ensures { result ≡ spec.long word.now }
-{
-    if begins_with_plus(word) {
-        return None;
-    }
-    word.parse::<usize>().ok()
+    Some(Some(long(word)? as usize))
 }
 
 #[tactic(auto, unfolding(crate::specs::Numbers::attribute))]
-pub(crate) fn attribute(word: &str) -> Option<Option<u32>>
+pub fn attribute(word: &str) -> Option<Option<u32>>
     ensures { result ≡ spec.attribute word.now }
 {
     if word == "-" {

@@ -1,17 +1,17 @@
 // The types that words stand for.
 ghost use Rattle.std.specs.Prelude.{◌≡◌, ◌<◌, ◌≤◌, IfOk, OnOk, OnSome, length, map};
 ghost use Rattle.wgsl_core.specs.View.{member_view, view};
-ghost use Rattle.wgsl_words.specs.Layers.{ReadsNext, wrapped};
+ghost use Rattle.wgsl_words.specs.Types.{ReadsNext, wrapped, in_layer, member_at, other_from, struct_at, type_at, type_from};
 ghost use Rattle.wgsl_words.specs.Reader.{Gives, Reads, all, last, pair};
-ghost use Rattle.wgsl_words.specs.Types.{in_layer, member_at, other_from, struct_at, type_at, type_from};
 
 use crate::layer::read_layer;
 use crate::leaf::read_leaf;
-use crate::wanted::{Misfit, Wanted};
+use crate::wanted::{Misfit, Read, Wanted};
 use crate::words::Words;
-use std::alloc::{AllocError, Global};
+use std::alloc::Global;
 use wgsl_core::error::Fail;
 use wgsl_core::ty::{StructMemberType, StructType, Type};
+use wgsl_requests::reply::Made;
 use wgsl_syntax::around::Around;
 use wgsl_syntax::scalar::scalar_named;
 
@@ -21,7 +21,7 @@ use wgsl_syntax::scalar::scalar_named;
 /// stack.
 #[cycle(reading)]
 #[inline(always)]
-pub fn read_type(alloc: Global, words: &mut Words) -> Result<Type, Fail<Misfit>>
+pub fn read_type(alloc: Global, words: &mut Words) -> Read<Type>
     ensures shorter { OnOk result (length words.new < length words.old) }
     ensures read { Reads view (type_at words.old) result words.new }
 {
@@ -33,7 +33,7 @@ pub fn read_type(alloc: Global, words: &mut Words) -> Result<Type, Fail<Misfit>>
 #[cycle(reading)]
 #[inline(always)]
 #[tactic(auto, unfolding(crate::specs::Types::type_from, crate::specs::Names::scalar_named))]
-pub fn read_type_at(alloc: Global, word: &str, words: &mut Words) -> Result<Type, Fail<Misfit>>
+pub fn read_type_at(alloc: Global, word: &str, words: &mut Words) -> Read<Type>
     ensures shorter { OnOk result (length words.new ≤ length words.old) }
     ensures read { Reads view (type_from type_at word.now words.old) result words.new }
 {
@@ -50,7 +50,7 @@ pub fn read_type_at(alloc: Global, word: &str, words: &mut Words) -> Result<Type
 #[cycle(reading)]
 #[inline(never)]
 #[tactic(auto, unfolding(crate::specs::Types::other_from))]
-fn read_other(alloc: Global, word: &str, words: &mut Words) -> Result<Type, Fail<Misfit>>
+fn read_other(alloc: Global, word: &str, words: &mut Words) -> Read<Type>
     ensures shorter { OnOk result (length words.new ≤ length words.old) }
     ensures read { Reads view (other_from type_at word.now words.old) result words.new }
 {
@@ -63,7 +63,7 @@ fn read_other(alloc: Global, word: &str, words: &mut Words) -> Result<Type, Fail
 /// The type with this layer around what the next words stand for.
 #[cycle(reading)]
 #[inline(always)]
-fn read_inside(alloc: Global, outer: Around, words: &mut Words) -> Result<Type, Fail<Misfit>>
+fn read_inside(alloc: Global, outer: Around, words: &mut Words) -> Read<Type>
     ensures shorter { OnOk result (length words.new ≤ length words.old) }
     ensures read { Reads view (in_layer outer type_at words.old) result words.new }
 {
@@ -82,12 +82,7 @@ fn read_inside(alloc: Global, outer: Around, words: &mut Words) -> Result<Type, 
 /// While they are read, the layers are in an array. A layer for which it has no room is read with the type inside.
 #[cycle(reading)]
 #[inline(always)]
-fn read_layers(
-    alloc: Global,
-    outermost: Around,
-    first: &str,
-    words: &mut Words,
-) -> Result<Type, Fail<Misfit>>
+fn read_layers(alloc: Global, outermost: Around, first: &str, words: &mut Words) -> Read<Type>
     ensures shorter { OnOk result (length words.new ≤ length words.old) }
     ensures read { Reads view (in_layer outermost (type_from type_at first.now) words.old) result words.new }
 {
@@ -105,7 +100,7 @@ fn read_layers(
 
 /// The layer that begins with this word; `None` if none does, or if there are 4 already.
 #[inline(always)]
-fn read_next(count: usize, word: &str, words: &mut Words) -> Result<Option<Around>, Fail<Misfit>>
+fn read_next(count: usize, word: &str, words: &mut Words) -> Read<Option<Around>>
     ensures shorter { OnOk result (length words.new ≤ length words.old) }
     ensures room { IfOk result (λ layer. OnSome layer (count < 4)) }
     ensures read { ReadsNext word.now words.old words.new result }
@@ -118,7 +113,7 @@ fn read_next(count: usize, word: &str, words: &mut Words) -> Result<Option<Aroun
 }
 
 /// Wraps the type in these layers, the last innermost.
-fn wrap(alloc: Global, layers: &[Around], innermost: Type) -> Result<Type, AllocError>
+fn wrap(alloc: Global, layers: &[Around], innermost: Type) -> Made<Type>
     ensures { IfOk result (λ ty. view ty ≡ wrapped layers.now (view innermost)) }
 {
     let mut ty = innermost;
@@ -135,7 +130,7 @@ fn wrap(alloc: Global, layers: &[Around], innermost: Type) -> Result<Type, Alloc
 #[cycle(reading)]
 #[inline(never)]
 #[tactic(auto, unfolding(crate::specs::Types::struct_at))]
-fn read_struct(alloc: Global, words: &mut Words) -> Result<Type, Fail<Misfit>>
+fn read_struct(alloc: Global, words: &mut Words) -> Read<Type>
     ensures shorter { OnOk result (length words.new ≤ length words.old) }
     ensures read { Reads view (struct_at type_at words.old) result words.new }
 {
@@ -151,7 +146,7 @@ fn read_struct(alloc: Global, words: &mut Words) -> Result<Type, Fail<Misfit>>
 /// A member: its name, its attributes size and align, and its type.
 #[cycle(reading)]
 #[tactic(auto, unfolding(crate::specs::Types::member_at))]
-fn read_member(alloc: Global, words: &mut Words) -> Result<StructMemberType, Fail<Misfit>>
+fn read_member(alloc: Global, words: &mut Words) -> Read<StructMemberType>
     ensures shorter { OnOk result (length words.new < length words.old) }
     ensures read { Reads member_view (member_at type_at words.old) result words.new }
 {
@@ -169,7 +164,7 @@ fn read_member(alloc: Global, words: &mut Words) -> Result<StructMemberType, Fai
 
 /// The type in the remaining words.
 #[inline(always)]
-pub fn read_last_type(alloc: Global, words: &mut Words) -> Result<Type, Fail<Misfit>>
+pub fn read_last_type(alloc: Global, words: &mut Words) -> Read<Type>
     ensures { Gives view (last type_at words.old) result }
 {
     let ty = read_type(alloc, words)?;
@@ -183,7 +178,7 @@ pub fn read_last_type(alloc: Global, words: &mut Words) -> Result<Type, Fail<Mis
 
 /// The types in all remaining words.
 #[inline(always)]
-pub fn read_types(alloc: Global, words: &mut Words) -> Result<Vec<Type>, Fail<Misfit>>
+pub fn read_types(alloc: Global, words: &mut Words) -> Read<Vec<Type>>
     ensures { Gives (λ types. map view types.items) (all type_at words.old) result }
 {
     let mut types = Vec::with_capacity(alloc, 4)?;
@@ -195,7 +190,7 @@ pub fn read_types(alloc: Global, words: &mut Words) -> Result<Vec<Type>, Fail<Mi
 
 /// The two types in the remaining words.
 #[inline(always)]
-pub fn read_pair(alloc: Global, words: &mut Words) -> Result<(Type, Type), Fail<Misfit>>
+pub fn read_pair(alloc: Global, words: &mut Words) -> Read<(Type, Type)>
     ensures { Gives (λ p. (view p.0, view p.1)) (last (pair type_at) words.old) result }
 {
     let first = read_type(alloc, words)?;

@@ -1,6 +1,6 @@
 // One line, from its bytes to its reply.
-ghost use Rattle.std.specs.Prelude.{◌≡◌, ◌<◌, ◌≤◌, ◌∷◌, [], IfOk, IsOkAnd, IsUtf8, Ok, length, string_bytes};
-ghost use Rattle.wgsl_requests.specs.Replies.{IsUnreadable, WritesReply};
+ghost use Rattle.std.specs.Prelude.{◌≡◌, ◌<◌, ◌≤◌, ◌∷◌, [], IsOkAnd, IsUtf8, Ok, length};
+ghost use Rattle.wgsl_requests.specs.Replies.{IsUnreadable, Replies};
 ghost use Rattle.wgsl_words.specs.Replies.{IsReplyToLine, IsReplyToWords};
 ghost use Rattle.wgsl_words.specs.Words.{words_of};
 
@@ -8,24 +8,19 @@ use crate::command::write_answer;
 use crate::wanted::{Misread, Wanted};
 use crate::why::Why;
 use crate::words::Words;
-use std::alloc::{AllocError, Global};
+use std::alloc::Global;
 use wgsl_core::error::Fail;
-use wgsl_requests::reply::{LONGEST, ReplyKind};
+use wgsl_requests::reply::{LONGEST, Made, ReplyKind};
 
 /// The kind of the reply to a line, by the ported rules. An answer is written at the end of the text.
 #[inline(always)]
-pub fn write_reply(
-    alloc: Global,
-    request: &[u8],
-    text: &mut String,
-) -> Result<ReplyKind<Why>, AllocError>
+pub fn write_reply(alloc: Global, request: &[u8], text: &mut String) -> Made<ReplyKind<Why>>
     ensures too_long { LONGEST < length request.now
         → result ≡ Ok (ReplyKind.Unreadable Why.TooLong) }
     ensures no_text { ¬ IsUtf8 request.now → IsOkAnd result IsUnreadable }
     ensures no_words { length request.now ≤ LONGEST → words_of request.now ≡ []
         → result ≡ Ok ReplyKind.Nothing }
-    ensures reply { IfOk result (λ kind. WritesReply (IsReplyToLine request.now) kind
-        (string_bytes text.old) (string_bytes text.new)) }
+    ensures reply { Replies (IsReplyToLine request.now) text.old text.new result }
 {
     if request.len() > LONGEST {
         return Ok(ReplyKind::Unreadable(Why::TooLong));
@@ -46,9 +41,8 @@ fn write_reply_to(
     command: &str,
     words: &mut Words,
     text: &mut String,
-) -> Result<ReplyKind<Why>, AllocError>
-    ensures { IfOk result (λ kind. WritesReply (IsReplyToWords (command.now ∷ words.old)) kind
-        (string_bytes text.old) (string_bytes text.new)) }
+) -> Made<ReplyKind<Why>>
+    ensures { Replies (IsReplyToWords (command.now ∷ words.old)) text.old text.new result }
 {
     match write_answer(alloc, command, words, text) {
         Ok(kind) => Ok(ReplyKind::Answer(kind)),

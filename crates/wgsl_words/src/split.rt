@@ -1,6 +1,5 @@
 // The first word of a text.
-ghost use Rattle.std.specs.Prelude.{◌≡◌, ◌↔◌, [], IsTrue, length, not};
-ghost use Rattle.std.specs.List.{take_while};
+ghost use Rattle.std.specs.Prelude.{◌≡◌, ◌↔◌, [], IsTrue, length, not, take_while};
 ghost use Rattle.wgsl_words.specs.Words.{IsFirstWord, is_separator, words_of};
 
 /// The first word of a text, and the index after it.

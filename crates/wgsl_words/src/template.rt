@@ -6,7 +6,7 @@ ghost use Rattle.wgsl_words.specs.Templates.{enumerant_named, literal, parameter
 
 use crate::literal::literal;
 use crate::read::read_type;
-use crate::wanted::{Misfit, Wanted};
+use crate::wanted::{Misfit, Read, Wanted};
 use crate::words::{Words, wanted};
 use std::alloc::Global;
 use wgsl_core::error::Fail;
@@ -20,10 +20,7 @@ use wgsl_syntax::texel::texel_named;
 /// The template of a call: `-` for none, or `<`, parameters and `>`.
 #[inline(always)]
 #[tactic(auto, unfolding(crate::specs::Templates::template_at))]
-pub fn read_template(
-    alloc: Global,
-    words: &mut Words,
-) -> Result<Option<Vec<TpltParam>>, Fail<Misfit>>
+pub fn read_template(alloc: Global, words: &mut Words) -> Read<Option<Vec<TpltParam>>>
     ensures { Reads (option_map (λ ps. map parameter_view ps.items)) (template_at words.old) result words.new }
 {
     match words.next(Wanted::Template)? {
@@ -35,7 +32,7 @@ pub fn read_template(
 
 /// Parameters up to `>`. It is not inlined, since most calls have no template.
 #[inline(never)]
-fn read_parameters(alloc: Global, words: &mut Words) -> Result<Vec<TpltParam>, Fail<Misfit>>
+fn read_parameters(alloc: Global, words: &mut Words) -> Read<Vec<TpltParam>>
     ensures { Reads (λ ps. map parameter_view ps.items) (parameters_at words.old) result words.new }
 {
     let mut parameters = Vec::new(alloc);
@@ -50,7 +47,7 @@ fn read_parameters(alloc: Global, words: &mut Words) -> Result<Vec<TpltParam>, F
 
 /// A parameter: `t` and a type, `n` and a literal, or `e` and an enumerant.
 #[tactic(auto, unfolding(crate::specs::Templates::parameter_from))]
-fn read_parameter(alloc: Global, kind: &str, words: &mut Words) -> Result<TpltParam, Fail<Misfit>>
+fn read_parameter(alloc: Global, kind: &str, words: &mut Words) -> Read<TpltParam>
     ensures shorter { OnOk result (length words.new ≤ length words.old) }
     ensures read { Reads parameter_view (parameter_from kind.now words.old) result words.new }
 {
@@ -62,14 +59,14 @@ fn read_parameter(alloc: Global, kind: &str, words: &mut Words) -> Result<TpltPa
     }
 }
 
-fn read_literal(words: &mut Words) -> Result<LiteralInstance, Fail<Misfit>>
+fn read_literal(words: &mut Words) -> Read<LiteralInstance>
     ensures shorter { OnOk result (length words.new ≤ length words.old) }
     ensures read { Reads literal_view (one literal words.old) result words.new }
 {
     wanted(literal(words.next(Wanted::Literal)?), Wanted::Literal)
 }
 
-fn read_enumerant(words: &mut Words) -> Result<Enumerant, Fail<Misfit>>
+fn read_enumerant(words: &mut Words) -> Read<Enumerant>
     ensures shorter { OnOk result (length words.new ≤ length words.old) }
     ensures read { Reads (λ enumerant. enumerant) (one enumerant_named words.old) result words.new }
 {

@@ -1,8 +1,8 @@
 // Why a request can't be read, as a message.
 use crate::wanted::{Misfit, Misread, Wanted};
 use crate::words::Words;
-use std::alloc::AllocError;
 use std::str::FromStr;
+use wgsl_requests::reply::Made;
 use wgsl_requests::write::overloads::write_suggestion;
 use wgsl_requests::write::word::write_word;
 use wgsl_standard::meant::meant_type;
@@ -17,7 +17,7 @@ pub enum Why {
 }
 
 /// Writes why the request can't be read.
-pub fn write_why(request: &[u8], why: Why, text: &mut String) -> Result<(), AllocError> {
+pub fn write_why(request: &[u8], why: Why, text: &mut String) -> Made<()> {
     let reason = match why {
         Why::TooLong => "more than 4096 bytes",
         Why::NotUtf8 => "not UTF-8",
@@ -27,23 +27,15 @@ pub fn write_why(request: &[u8], why: Why, text: &mut String) -> Result<(), Allo
 }
 
 /// Writes the place and the fault of the word that can't be read.
-fn write_misread(request: &[u8], misread: Misread, text: &mut String) -> Result<(), AllocError> {
+fn write_misread(request: &[u8], misread: Misread, text: &mut String) -> Made<()> {
     let taken = words_up_to(request, misread.taken);
-    let number = match misread.misfit {
-        Misfit::Wrong(_) => taken,
-        Misfit::Missing(_) | Misfit::LeftOver => taken.saturating_add(1),
-        Misfit::NoStruct => 2,
+    let (number, wanted) = match misread.misfit {
+        Misfit::Wrong(wanted) => (taken, Some(wanted)),
+        Misfit::Missing(wanted) => (taken.saturating_add(1), Some(wanted)),
+        Misfit::LeftOver => (taken.saturating_add(1), None),
+        Misfit::NoStruct => (2, Some(Wanted::Struct)),
     };
-    write_fault(request, number, wanted(misread.misfit), text)
-}
-
-/// What is expected of the word, or `None` if nothing is.
-fn wanted(misfit: Misfit) -> Option<Wanted> {
-    match misfit {
-        Misfit::Missing(wanted) | Misfit::Wrong(wanted) => Some(wanted),
-        Misfit::LeftOver => None,
-        Misfit::NoStruct => Some(Wanted::Struct),
-    }
+    write_fault(request, number, wanted, text)
 }
 
 /// Writes the place of the word with this number, and that it is missing, is not what is expected, or is left over.
@@ -52,7 +44,7 @@ fn write_fault(
     number: usize,
     wanted: Option<Wanted>,
     text: &mut String,
-) -> Result<(), AllocError> {
+) -> Made<()> {
     match word_at(request, number) {
         Some((word, end)) => {
             write_place(end.saturating_sub(word.len()), number, text)?;
@@ -67,18 +59,18 @@ fn write_fault(
 }
 
 /// Writes the column after that many bytes, and the number of the word there.
-fn write_place(before: usize, number: usize, text: &mut String) -> Result<(), AllocError> {
+fn write_place(before: usize, number: usize, text: &mut String) -> Made<()> {
     let column = before.saturating_add(1);
     write!(text, "column {column}, word {number}: ")
 }
 
-fn write_missing(wanted: Wanted, text: &mut String) -> Result<(), AllocError> {
+fn write_missing(wanted: Wanted, text: &mut String) -> Made<()> {
     let article = wanted.article();
     let noun = wanted.noun();
     write!(text, "{article} {noun} is missing")
 }
 
-fn write_verdict(word: &str, wanted: Option<Wanted>, text: &mut String) -> Result<(), AllocError> {
+fn write_verdict(word: &str, wanted: Option<Wanted>, text: &mut String) -> Made<()> {
     let Some(wanted) = wanted else {
         return text.push_str(" is left over");
     };

@@ -6,7 +6,7 @@ ghost use Rattle.wgsl_words.specs.Words.{words_of};
 
 use crate::number;
 use crate::split::{first_word, is_blank};
-use crate::wanted::{Misfit, Wanted};
+use crate::wanted::{Misfit, Read, Wanted};
 use std::marker::Model;
 use wgsl_core::error::Fail;
 
@@ -42,7 +42,7 @@ impl<'t> Words<'t> {
     }
 
     /// The next word. If none is left, the error is that what is expected is missing.
-    pub fn next(&mut self, wanted: Wanted) -> Result<&'t str, Fail<Misfit>>
+    pub fn next(&mut self, wanted: Wanted) -> Read<&'t str>
         ensures shorter { OnOk result (length self.new < length self.old) }
         ensures read { Reads (λ w. w.now) (a_word self.old) result self.new }
         ensures none { OnErr result (a_word self.old ≡ None) }
@@ -69,7 +69,7 @@ impl<'t> Words<'t> {
     }
 
     /// A number of members.
-    pub fn next_number(&mut self) -> Result<u64, Fail<Misfit>>
+    pub fn next_number(&mut self) -> Read<u64>
         ensures shorter { OnOk result (length self.new < length self.old) }
         ensures read { Reads (λ n. n) (one long self.old) result self.new }
     {
@@ -78,7 +78,7 @@ impl<'t> Words<'t> {
 
     /// A number of components, columns or rows.
     #[inline(always)]
-    pub fn next_small(&mut self, noun: Wanted) -> Result<u8, Fail<Misfit>>
+    pub fn next_small(&mut self, noun: Wanted) -> Read<u8>
         ensures shorter { OnOk result (length self.new < length self.old) }
         ensures read { Reads (λ n. n) (one small self.old) result self.new }
     {
@@ -87,18 +87,16 @@ impl<'t> Words<'t> {
 
     /// A number of elements, or `*` if the array is runtime-sized.
     #[inline(always)]
-    pub fn next_count(&mut self) -> Result<Option<usize>, Fail<Misfit>>
+    pub fn next_count(&mut self) -> Read<Option<usize>>
         ensures shorter { OnOk result (length self.new < length self.old) }
         ensures read { Reads (λ n. n) (one count self.old) result self.new }
     {
-        wanted(
-            number::count(self.next(Wanted::Elements)?),
-            Wanted::Elements,
-        )
+        let word = self.next(Wanted::Elements)?;
+        wanted(number::count(word), Wanted::Elements)
     }
 
     /// An attribute of a member in bytes, or `-` if it has none.
-    pub fn next_attribute(&mut self, noun: Wanted) -> Result<Option<u32>, Fail<Misfit>>
+    pub fn next_attribute(&mut self, noun: Wanted) -> Read<Option<u32>>
         ensures shorter { OnOk result (length self.new < length self.old) }
         ensures read { Reads (λ n. n) (one attribute self.old) result self.new }
     {
@@ -108,7 +106,7 @@ impl<'t> Words<'t> {
 
 /// What the last word means, or that it isn't what is expected.
 #[inline(always)]
-pub fn wanted<T>(meaning: Option<T>, noun: Wanted) -> Result<T, Fail<Misfit>>
+pub fn wanted<T>(meaning: Option<T>, noun: Wanted) -> Read<T>
     ensures { Gives (λ x. x) meaning result }
 {
     match meaning {

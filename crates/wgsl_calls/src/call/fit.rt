@@ -71,21 +71,19 @@ fn begin_as(arguments: &Arguments, args: &[Type]) -> bool
     match arguments {
         Arguments::Nothing => true,
         Arguments::One(first) => match args {
-            [a, ..] => is(*first, a),
+            [a, ..] => is(first, a),
             _ => false,
         },
         Arguments::Two(first, second) => match args {
-            [a, b, ..] => is(*first, a) && is(*second, b),
+            [a, b, ..] => is(first, a) && is(second, b),
             _ => false,
         },
         Arguments::Three(first, second, third) => match args {
-            [a, b, c, ..] => is(*first, a) && is(*second, b) && is(*third, c),
+            [a, b, c, ..] => is(first, a) && is(second, b) && is(third, c),
             _ => false,
         },
         Arguments::Four(first, second, third, fourth) => match args {
-            [a, b, c, d, ..] => {
-                is(*first, a) && is(*second, b) && is(*third, c) && is(*fourth, d)
-            }
+            [a, b, c, d, ..] => { is(first, a) && is(second, b) && is(third, c) && is(fourth, d) }
             _ => false,
         },
     }

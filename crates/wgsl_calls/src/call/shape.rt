@@ -1,5 +1,7 @@
 // Whether an argument has the shape that a built-in function requires.
 ghost use Rattle.std.specs.Prelude.{◌≡◌, ◌↔◌, IsTrue};
+ghost use Rattle.wgsl_rules.specs.conversion.Conversion.{ConvertsTo};
+ghost use Rattle.wgsl_rules.specs.types.Types.{scalar};
 ghost use Rattle.wgsl_rules.specs.types.Kinds.{IsScalarOrVector, IsStruct, IsAtomic};
 ghost use Rattle.wgsl_rules.specs.calls.Shapes.{IsOfKind, IsTextureOf, IsScalarOf, IsVectorOf, IsScalarOrVectorOf, IsSquareMatrix, IsFraction, IsTextureTypeOf, IsPointerToAtomic, IsPointerInWorkgroup, IsQuery, IsAccelerationStructure, Is};
 ghost use Rattle.wgsl_core.specs.View.{view};
@@ -13,10 +15,10 @@ use wgsl_syntax::scalar::Scalar;
 use wgsl_syntax::texture::TextureType;
 
 /// Whether the type has the shape.
-pub fn is(shape: Shape, ty: &Type) -> bool
-    ensures { IsTrue result ↔ Is shape (view ty.now) }
+pub fn is(shape: &Shape, ty: &Type) -> bool
+    ensures { IsTrue result ↔ Is shape.now (view ty.now) }
 {
-    match shape {
+    match *shape {
         Shape::Any => true,
         Shape::ScalarOf(kind) => is_scalar_of(kind, ty),
         Shape::VectorOf(kind) => is_vector_of(kind, ty),
@@ -26,7 +28,7 @@ pub fn is(shape: Shape, ty: &Type) -> bool
         Shape::Matrix => ty.is_mat(),
         Shape::SquareMatrix => is_square_matrix(ty),
         Shape::Fraction => is_fraction(ty),
-        Shape::To(of) => ty.is_convertible_to(&Type::from(of)),
+        Shape::To(of) => converts_to(ty, of),
         Shape::ToVector(n, of) => ty.is_convertible_to_vector(n, of),
         Shape::TextureOf(kind) => is_texture_type_of(kind, ty),
         Shape::PointerToAtomic => is_pointer_to_atomic(ty),
@@ -35,6 +37,14 @@ pub fn is(shape: Shape, ty: &Type) -> bool
         Shape::Acceleration => is_acceleration_structure(ty),
         Shape::Structure => is_struct(ty),
     }
+}
+
+/// Whether the type converts to the scalar.
+#[inline(never)]
+fn converts_to(ty: &Type, of: Scalar) -> bool
+    ensures { IsTrue result ↔ ConvertsTo (view ty.now) (scalar of) }
+{
+    ty.is_convertible_to(&Type::from(of))
 }
 
 fn is_of_kind(kind: ScalarKind, scalar: Scalar) -> bool

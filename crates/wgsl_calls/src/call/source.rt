@@ -110,16 +110,6 @@ fn channel<'a>(ty: Option<&'a Type>) -> Option<Element<'a>>
     Some(Element::Scalar(Scalar::from(texture.channel_type())))
 }
 
-/// The element itself.
-pub fn bare(element: Option<Element<'_>>) -> Option<ResolvedType<'_>>
-    ensures { option_map resolved_view result ≡ option_map element_view element.entry }
-{
-    Some(ResolvedType {
-        dimensions: Dimensions::Single,
-        element: element?,
-    })
-}
-
 /// A vector of the element.
 pub fn in_vector(components: u8, element: Option<Element<'_>>) -> Option<ResolvedType<'_>>
     ensures { option_map resolved_view result

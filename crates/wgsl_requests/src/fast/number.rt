@@ -1,11 +1,12 @@
 // Numbers, written in digits: in the Rust crate a rank of scalars takes 1035 instructions of 1220 that it takes with `write!`.
-ghost use Rattle.std.specs.Prelude.{◌≡◌, ◌++◌, OnOk, decimal, string_bytes};
+ghost use Rattle.std.specs.Prelude.{decimal};
+ghost use Rattle.wgsl_requests.specs.Texts.{Writes};
 
-use std::alloc::AllocError;
+use crate::reply::Made;
 
 /// Writes a number in decimal digits.
-pub fn write_number(text: &mut String, number: u32) -> Result<(), AllocError>
-    ensures { OnOk result (string_bytes text.new ≡ string_bytes text.old ++ decimal number) }
+pub fn write_number(text: &mut String, number: u64) -> Made<()>
+    ensures { Writes (decimal number) text.old text.new result }
 {
     if number >= 10 {
         write_number(text, number / 10)?;

@@ -1,13 +1,12 @@
 // Writes the offsets of a struct's members, and its layout as a table.
-ghost use Rattle.std.specs.Prelude.{◌≡◌, ◌++◌, OnOk, option_map, string_bytes};
+ghost use Rattle.std.specs.Prelude.{option_map};
 ghost use Rattle.wgsl_core.specs.View.{struct_view};
 ghost use Rattle.wgsl_requests.specs.Views.{layout_view};
-ghost use Rattle.wgsl_requests.specs.Layouts.{layout_text, spaced, struct_line};
-ghost use Rattle.wgsl_requests.specs.Texts.{or_none};
+ghost use Rattle.wgsl_requests.specs.Texts.{layout_text, spaced, struct_line, Writes, or_none};
 ghost use Rattle.wgsl_requests.specs.internal.Written.{placed_line, placed_lines};
 
 use crate::fast::number::write_number;
-use std::alloc::AllocError;
+use crate::reply::Made;
 use wgsl_core::layout::{PlacedMember, StructLayout};
 use wgsl_core::ty::{StructMemberType, StructType};
 
@@ -15,28 +14,19 @@ use wgsl_core::ty::{StructMemberType, StructType};
 ///
 /// A line begins with three columns in bytes, a member's with its offset, its size and its alignment, the last with the
 /// size of the whole, a dash and its alignment.
-pub(crate) fn write_layout(
-    text: &mut String,
-    structure: &StructType,
-    layout: &Option<StructLayout>,
-) -> Result<(), AllocError>
-    ensures { let struct = struct_view structure.now in OnOk result (string_bytes text.new
-        ≡ string_bytes text.old
-        ++ or_none (layout_text struct.name struct.members) (option_map layout_view layout.now)) }
+pub fn write_layout(text: &mut String, ty: &StructType, layout: &Option<StructLayout>) -> Made<()>
+    ensures { let struct = struct_view ty.now in Writes (or_none
+        (layout_text struct.name struct.members) (option_map layout_view layout.now)) text.old text.new result }
 {
     match layout {
-        Some(layout) => write_lines(text, structure, layout),
+        Some(layout) => write_lines(text, ty, layout),
         None => text.push_str("none"),
     }
 }
 
-fn write_lines(
-    text: &mut String,
-    structure: &StructType,
-    layout: &StructLayout,
-) -> Result<(), AllocError>
-    ensures { let struct = struct_view structure.now in OnOk result (string_bytes text.new
-        ≡ string_bytes text.old ++ layout_text struct.name struct.members (layout_view layout.now)) }
+fn write_lines(text: &mut String, structure: &StructType, layout: &StructLayout) -> Made<()>
+    ensures { let struct = struct_view structure.now in
+        Writes (layout_text struct.name struct.members (layout_view layout.now)) text.old text.new result }
 {
     write_members(&structure.members, &layout.members, text)?;
     write_last(&structure.name, layout, text)
@@ -46,9 +36,8 @@ fn write_members(
     members: &[StructMemberType],
     placed: &[PlacedMember],
     text: &mut String,
-) -> Result<(), AllocError>
-    ensures { OnOk result
-        (string_bytes text.new ≡ string_bytes text.old ++ placed_lines members.now placed.now) }
+) -> Made<()>
+    ensures { Writes (placed_lines members.now placed.now) text.old text.new result }
 {
     for (member, placed) in members.iter().zip(placed) {
         write_member(member, placed, text)?;
@@ -57,22 +46,16 @@ fn write_members(
 }
 
 /// The struct's line: its size, a dash, its alignment and its name.
-fn write_last(name: &str, layout: &StructLayout, text: &mut String) -> Result<(), AllocError>
-    ensures { OnOk result (string_bytes text.new
-        ≡ string_bytes text.old ++ struct_line name.now layout.now.size layout.now.align) }
+fn write_last(name: &str, layout: &StructLayout, text: &mut String) -> Made<()>
+    ensures { Writes (struct_line name.now layout.now.size layout.now.align) text.old text.new result }
 {
     let StructLayout { size, align, .. } = layout;
     write!(text, "{size:>10} {:>10} {align:>10} {name}", "-")
 }
 
 /// A member's line: its offset, size and alignment, its name and its type.
-fn write_member(
-    member: &StructMemberType,
-    placed: &PlacedMember,
-    text: &mut String,
-) -> Result<(), AllocError>
-    ensures { OnOk result
-        (string_bytes text.new ≡ string_bytes text.old ++ placed_line member.now placed.now) }
+fn write_member(member: &StructMemberType, placed: &PlacedMember, text: &mut String) -> Made<()>
+    ensures { Writes (placed_line member.now placed.now) text.old text.new result }
 {
     let PlacedMember {
         offset,
@@ -85,9 +68,8 @@ fn write_member(
 }
 
 /// Writes the offsets with one space between, or `none`.
-pub(crate) fn write_offsets(text: &mut String, offsets: &Option<Vec<u32>>) -> Result<(), AllocError>
-    ensures { OnOk result (string_bytes text.new
-        ≡ string_bytes text.old ++ or_none spaced (option_map (λ v. v.items) offsets.now)) }
+pub fn write_offsets(text: &mut String, offsets: &Option<Vec<u32>>) -> Made<()>
+    ensures { Writes (or_none spaced (option_map (λ v. v.items) offsets.now)) text.old text.new result }
 {
     match offsets {
         Some(offsets) => write_spaced(text, offsets),
@@ -96,16 +78,16 @@ pub(crate) fn write_offsets(text: &mut String, offsets: &Option<Vec<u32>>) -> Re
 }
 
 /// Writes the numbers with one space between.
-fn write_spaced(text: &mut String, numbers: &[u32]) -> Result<(), AllocError>
-    ensures { OnOk result (string_bytes text.new ≡ string_bytes text.old ++ spaced numbers.now) }
+fn write_spaced(text: &mut String, numbers: &[u32]) -> Made<()>
+    ensures { Writes (spaced numbers.now) text.old text.new result }
 {
     let Some((first, rest)) = numbers.split_first() else {
         return Ok(());
     };
-    write_number(text, *first)?;
+    write_number(text, u64::from(*first))?;
     for number in rest {
         text.push_str(" ")?;
-        write_number(text, *number)?;
+        write_number(text, u64::from(*number))?;
     }
     Ok(())
 }

@@ -1,21 +1,15 @@
 // Writes the answers about WGSL's own overloads.
-ghost use Rattle.std.specs.Prelude.{◌≡◌, ◌++◌, OnOk, map, option_map, string_bytes};
-ghost use Rattle.wgsl_rules.specs.types.Signatures.{listed, template_text};
-ghost use Rattle.wgsl_rules.specs.standard.Choice.{value_of};
-ghost use Rattle.wgsl_rules.specs.types.Spelling.{wgsl_spelling};
-ghost use Rattle.wgsl_core.specs.Instances.{parameter_view};
-ghost use Rattle.wgsl_core.specs.View.{view};
-ghost use Rattle.wgsl_standard.specs.Operands.{given_type};
-ghost use Rattle.wgsl_standard.specs.Resolved.{resolved_view};
-ghost use Rattle.wgsl_standard.specs.Results.{result_view};
-ghost use Rattle.wgsl_standard.specs.Texts.{callee_text, line_of, note_text};
-ghost use Rattle.wgsl_requests.specs.StandardViews.{call_view};
-ghost use Rattle.wgsl_requests.specs.Texts.{lines_text, no_candidate_text, no_overload_text, or_no_overload, resolution_text, result_text, suggestion, unknown_text, value_text};
+ghost use Rattle.std.specs.Prelude.{map, option_map};
+ghost use Rattle.wgsl_requests.specs.Prelude.{listed, template_text, value_of, wgsl_spelling, parameter_view, view, given_type, resolved_view, result_view};
+ghost use Rattle.wgsl_requests.specs.Prelude.{callee_text, line_of, note_text};
+ghost use Rattle.wgsl_requests.specs.Views.{call_view};
+ghost use Rattle.wgsl_requests.specs.Texts.{Writes, lines_text, no_candidate_text, no_overload_text, or_no_overload, resolution_text, result_text, suggestion, unknown_text, value_text};
 
+use crate::fast::ty::write_type;
+use crate::reply::Made;
 use crate::requests::Call;
 use crate::write::lists::{write_lines, write_parameters, write_types};
-use crate::write::{write_resolved, write_shown, write_type};
-use std::alloc::AllocError;
+use crate::write::write_resolved;
 use wgsl_core::operators::resolve::ResolvedType;
 use wgsl_core::signature::TpltParam;
 use wgsl_core::ty::Type;
@@ -35,15 +29,14 @@ pub(crate) fn write_type_of(
     text: &mut String,
     call: &Call<'_>,
     found: &Option<Option<ResultType>>,
-) -> Result<(), AllocError>
-    ensures { OnOk result (string_bytes text.new ≡ string_bytes text.old
-        ++ or_no_overload value_text (call_view call.now) (option_map (option_map result_view) found.now)) }
+) -> Made<()>
+    ensures { Writes (or_no_overload value_text (call_view call.now) (option_map (option_map result_view) found.now)) text.old text.new result }
 {
     match found {
         Some(Some(ResultType::Value(dimensions, scalar))) => {
             write_resolved(text, ResolvedType::of_scalar(*dimensions, *scalar))
         }
-        Some(Some(ResultType::Built(ty))) => write_type(text, ty),
+        Some(Some(ResultType::Built(ty))) => write_type(text, RuleSet::Ported, ty),
         Some(None) => text.push_str("no value"),
         None => write_no_overload(text, call),
     }
@@ -54,9 +47,8 @@ pub(crate) fn write_resolution_of(
     text: &mut String,
     call: &Call<'_>,
     found: &Option<ResolvedCall>,
-) -> Result<(), AllocError>
-    ensures { OnOk result (string_bytes text.new ≡ string_bytes text.old
-        ++ or_no_overload resolution_text (call_view call.now) (option_map resolved_view found.now)) }
+) -> Made<()>
+    ensures { Writes (or_no_overload resolution_text (call_view call.now) (option_map resolved_view found.now)) text.old text.new result }
 {
     match found {
         Some(resolved) => {
@@ -72,9 +64,8 @@ pub fn write_signature(
     index: usize,
     parameters: &[Type],
     of_result: &Option<Type>,
-) -> Result<(), AllocError>
-    ensures { OnOk result (string_bytes text.new ≡ string_bytes text.old
-        ++ resolution_text (index, map view parameters.now, option_map view of_result.now)) }
+) -> Made<()>
+    ensures { Writes (resolution_text (index, map view parameters.now, option_map view of_result.now)) text.old text.new result }
 {
     write!(text, "{index} (")?;
     write_types(text, parameters)?;
@@ -82,14 +73,13 @@ pub fn write_signature(
     write_result(text, of_result)
 }
 
-fn write_result(text: &mut String, ty: &Option<Type>) -> Result<(), AllocError>
-    ensures { OnOk result (string_bytes text.new
-        ≡ string_bytes text.old ++ result_text (option_map view ty.now)) }
+fn write_result(text: &mut String, ty: &Option<Type>) -> Made<()>
+    ensures { Writes (result_text (option_map view ty.now)) text.old text.new result }
 {
     match ty {
         Some(ty) => {
             text.push_str(" -> ")?;
-            write_shown(text, RuleSet::Standard, ty)
+            write_type(text, RuleSet::Standard, ty)
         }
         None => Ok(()),
     }
@@ -97,9 +87,8 @@ fn write_result(text: &mut String, ty: &Option<Type>) -> Result<(), AllocError>
 
 /// Writes why a call has no answer.
 #[inline(never)]
-fn write_no_overload(text: &mut String, call: &Call<'_>) -> Result<(), AllocError>
-    ensures { OnOk result (string_bytes text.new
-        ≡ string_bytes text.old ++ no_overload_text (call_view call.now)) }
+fn write_no_overload(text: &mut String, call: &Call<'_>) -> Made<()>
+    ensures { Writes (no_overload_text (call_view call.now)) text.old text.new result }
 {
     match unknown_name(call.callee) {
         Some(name) => write_unknown(text, name),
@@ -108,18 +97,16 @@ fn write_no_overload(text: &mut String, call: &Call<'_>) -> Result<(), AllocErro
 }
 
 /// Writes that nothing has the name, and which one may be meant.
-fn write_unknown(text: &mut String, name: &str) -> Result<(), AllocError>
-    ensures { OnOk result (string_bytes text.new
-        ≡ string_bytes text.old ++ unknown_text name.now) }
+fn write_unknown(text: &mut String, name: &str) -> Made<()>
+    ensures { Writes (unknown_text name.now) text.old text.new result }
 {
     write!(text, "nothing has the name `{name}`")?;
     write_suggestion(text, meant(name))
 }
 
 /// Writes which name may be meant, if one may.
-pub fn write_suggestion(text: &mut String, name: Option<&str>) -> Result<(), AllocError>
-    ensures { OnOk result (string_bytes text.new
-        ≡ string_bytes text.old ++ suggestion (option_map (λ name. name.now) name.entry)) }
+pub fn write_suggestion(text: &mut String, name: Option<&str>) -> Made<()>
+    ensures { Writes (suggestion (option_map (λ name. name.now) name.entry)) text.old text.new result }
 {
     match name {
         Some(name) => write!(text, "; did you mean `{name}`?"),
@@ -128,9 +115,8 @@ pub fn write_suggestion(text: &mut String, name: Option<&str>) -> Result<(), All
 }
 
 /// Writes that no overload takes the operands of a call.
-fn write_no_candidate(text: &mut String, call: &Call<'_>) -> Result<(), AllocError>
-    ensures { OnOk result (string_bytes text.new
-        ≡ string_bytes text.old ++ no_candidate_text (call_view call.now)) }
+fn write_no_candidate(text: &mut String, call: &Call<'_>) -> Made<()>
+    ensures { Writes (no_candidate_text (call_view call.now)) text.old text.new result }
 {
     text.push_str("no overload of `")?;
     write_callee(text, call.callee)?;
@@ -142,9 +128,8 @@ fn write_no_candidate(text: &mut String, call: &Call<'_>) -> Result<(), AllocErr
 
 /// Writes the types of operands, once they are loaded, with a comma between.
 #[inline(always)]
-fn write_operand_types(text: &mut String, operands: &[Operand<'_>]) -> Result<(), AllocError>
-    ensures { OnOk result (string_bytes text.new ≡ string_bytes text.old
-        ++ listed (λ x. wgsl_spelling (value_of (given_type x.ty))) operands.now) }
+fn write_operand_types(text: &mut String, operands: &[Operand<'_>]) -> Made<()>
+    ensures { Writes (listed (λ x. wgsl_spelling (value_of (given_type x.ty))) operands.now) text.old text.new result }
 {
     let Some((first, rest)) = operands.split_first() else {
         return Ok(());
@@ -159,9 +144,8 @@ fn write_operand_types(text: &mut String, operands: &[Operand<'_>]) -> Result<()
 
 /// Writes the type of an operand, a scalar without a formatter.
 #[inline(always)]
-fn write_operand_type(text: &mut String, ty: OperandType<'_>) -> Result<(), AllocError>
-    ensures { OnOk result (string_bytes text.new
-        ≡ string_bytes text.old ++ wgsl_spelling (given_type ty.entry)) }
+fn write_operand_type(text: &mut String, ty: OperandType<'_>) -> Made<()>
+    ensures { Writes (wgsl_spelling (given_type ty.entry)) text.old text.new result }
 {
     match ty {
         OperandType::Value(Dimensions::Single, scalar) => text.push_str(scalar.name()),
@@ -169,9 +153,8 @@ fn write_operand_type(text: &mut String, ty: OperandType<'_>) -> Result<(), Allo
     }
 }
 
-fn write_callee(text: &mut String, callee: Callee<'_>) -> Result<(), AllocError>
-    ensures { OnOk result (string_bytes text.new
-        ≡ string_bytes text.old ++ callee_text callee.entry) }
+fn write_callee(text: &mut String, callee: Callee<'_>) -> Made<()>
+    ensures { Writes (callee_text callee.entry) text.old text.new result }
 {
     match callee {
         Callee::Unary(operator) => write!(text, "{operator}"),
@@ -181,9 +164,8 @@ fn write_callee(text: &mut String, callee: Callee<'_>) -> Result<(), AllocError>
     }
 }
 
-fn write_template(text: &mut String, template: Option<&[TpltParam]>) -> Result<(), AllocError>
-    ensures { OnOk result (string_bytes text.new ≡ string_bytes text.old
-        ++ template_text (option_map (λ ps. map parameter_view ps.now) template.entry)) }
+fn write_template(text: &mut String, template: Option<&[TpltParam]>) -> Made<()>
+    ensures { Writes (template_text (option_map (λ ps. map parameter_view ps.now) template.entry)) text.old text.new result }
 {
     match template {
         Some(parameters) => {
@@ -196,20 +178,15 @@ fn write_template(text: &mut String, template: Option<&[TpltParam]>) -> Result<(
 }
 
 /// Writes a line for each signature, or `none`.
-pub(crate) fn write_signatures(
-    text: &mut String,
-    signatures: &[Signature<'_>],
-) -> Result<(), AllocError>
-    ensures { OnOk result (string_bytes text.new
-        ≡ string_bytes text.old ++ lines_text (map line_of signatures.now)) }
+pub(crate) fn write_signatures(text: &mut String, signatures: &[Signature<'_>]) -> Made<()>
+    ensures { Writes (lines_text (map line_of signatures.now)) text.old text.new result }
 {
     write_lines(text, signatures)
 }
 
 /// Writes a line for each note, or `none`.
-pub(crate) fn write_notes(text: &mut String, notes: &[Note<'_>]) -> Result<(), AllocError>
-    ensures { OnOk result (string_bytes text.new
-        ≡ string_bytes text.old ++ lines_text (map note_text notes.now)) }
+pub(crate) fn write_notes(text: &mut String, notes: &[Note<'_>]) -> Made<()>
+    ensures { Writes (lines_text (map note_text notes.now)) text.old text.new result }
 {
     write_lines(text, notes)
 }

@@ -1,42 +1,59 @@
--- What is known of variables while they are read.
-use Rattle.std.specs.Prelude.{◌≡◌, ◌≢◌, List, [], ◌∷◌, ◌++◌, IsTrue, Option, Some, None, Result, Ok, Err, false}
-use Rattle.wgsl_source.specs.Declarations.{declared_type}
-use Rattle.wgsl_source.specs.Qualifiers.{IsQualified}
-use Rattle.wgsl_source.specs.TextVariables.{AreKept}
+-- What is known of variables, overrides, entry points, aliases and attributes while they are read.
+use Rattle.std.specs.Prelude.{◌≡◌, ◌≢◌, ℕ, List, [], ◌∷◌, ◌++◌, IsTrue, MatchOption, Option, Some, None, Result, Ok, Err, false}
+use Rattle.std.specs.Option.{option_or}
+use Rattle.wgsl_constants.specs.Literals.{integer_of}
+use Rattle.wgsl_constants.specs.declared.constant.Constant.{Constant}
+use Rattle.wgsl_constants.specs.declared.constant.Constant.TheVariants as constant
+use Rattle.wgsl_source.specs.Attributes.{Attribute, IsNumberOf, argument_if, stage_by}
+use Rattle.wgsl_source.specs.TextDeclarations.{AreKept, Declared, IsLeft, IsOne, Sort, of_aliases, of_entry_points, of_overrides, of_variables}
+use Rattle.wgsl_source.specs.declared.attribute.Attributes.{Attributes}
+use Rattle.wgsl_source.specs.declared.attribute.Name.TheVariants as name
 use Rattle.wgsl_source.specs.declared.declaration.Declaration.{Declaration}
-use Rattle.wgsl_source.specs.declared.declaration.DeclarationKind.TheVariants as kinds
 use Rattle.wgsl_source.specs.declared.fault.Fault.{Fault}
 use Rattle.wgsl_source.specs.declared.others.Others.{Others}
 use Rattle.wgsl_source.specs.declared.text.Text.{Text}
-use Rattle.wgsl_source.specs.declared.variable.Variable.{Variable}
+use Rattle.wgsl_source.specs.declared.value.Value.{Value}
+use Rattle.wgsl_source.specs.declared.value.Value.TheVariants as value
 
--- the variable of a declaration
-pub record IsVariableFrom (t : Text) (d : Declaration) (v : Variable) : Type 0 where
-  pub name : v.name.now ≡ d.name.now
-  pub place : v.place ≡ d.place
-  pub qualified : IsQualified t d.list.now v.space v.access
+abbrev pub declared_of : Declaration → Declared
+declared_of d = record { kind = Some d.kind; name = d.name.now; place = d.place; attributes = d.attributes.now; list = d.list.now; rest = d.rest.now }
 
-pub record IsVariableOf (t : Text) (d : Declaration) (v : Variable) : Type 0 where
+-- what is kept of a declaration, if anything is
+abbrev pub IsReadOf : {A : Type 0} → Sort A → Declaration → Option A → Type 0
+IsReadOf sort d read = MatchOption read (sort.IsNone (declared_of d)) (sort.Is (declared_of d))
+
+pub record IsKeptOf {A : Type 0} (sort : Sort A) (d : Declaration) (a : A) : Type 0 where
   pub readable : d.is_faulty ≡ false
-  pub kind : d.kind ≡ kinds.Variable
-  pub from : IsVariableFrom t d v
+  pub one : IsOne sort (declared_of d) a
 
 -- why none is kept of a declaration
-pub data IsNoVariableOf (IsFaulty : Type 0) (d : Declaration) : Type 0 where
-  of_other_kind : d.kind ≢ kinds.Variable → IsNoVariableOf IsFaulty d
-  untyped : declared_type d.rest.now ≡ [] → IsNoVariableOf IsFaulty d
-  misread : IsTrue d.is_faulty → IsNoVariableOf IsFaulty d
-  faulty : IsFaulty → IsNoVariableOf IsFaulty d
+pub data IsLeftOf {A : Type 0} (sort : Sort A) (IsFaulty : Type 0) (d : Declaration) : Type 0 where
+  misread : IsTrue d.is_faulty → IsLeftOf sort IsFaulty d
+  left : IsLeft sort IsFaulty (declared_of d) → IsLeftOf sort IsFaulty d
 
--- what is kept of the first is added
-pub record AddsKept {A B : Type 0} (IsKept : A → B → Type 0) (IsLeft : A → Type 0) (xs : List A) (old new : List B) : Type 0 where
-  pub added : List B
+-- what is kept of declarations is added
+pub record AddsKept {A : Type 0} (sort : Sort A) (IsFaulty : Type 0) (ds : List Declaration) (old new : List A) : Type 0 where
+  pub added : List A
   pub more : new ≡ old ++ added
-  pub are : AreKept IsKept IsLeft xs added
+  pub are : AreKept (IsKeptOf sort) (IsLeftOf sort IsFaulty) ds added
 
 -- what declarations declare is added; what isn't may be left out because of this fault
 pub record AddsOthers (t : Text) (IsFaulty : Type 0) (ds : List Declaration) (old new : Others) : Type 0 where
-  pub variables : AddsKept (IsVariableOf t) (IsNoVariableOf IsFaulty) ds old.variables.items new.variables.items
+  pub variables : AddsKept (of_variables t) IsFaulty ds old.variables.items new.variables.items
+  pub overrides : AddsKept (of_overrides t) IsFaulty ds old.overrides.items new.overrides.items
+  pub entry_points : AddsKept (of_entry_points t) IsFaulty ds old.entry_points.items new.entry_points.items
+  pub aliases : AddsKept (of_aliases t) IsFaulty ds old.aliases.items new.aliases.items
+
+-- the declaration, if reading goes on
+abbrev pub if_read : {A E : Type 0} → Result A E → Declaration → List Declaration
+if_read (Ok a) d = d ∷ []
+if_read (Err e) d = []
+
+-- what is read is added
+abbrev pub IsAdded : {A E : Type 0} → Result (Option A) E → List A → List A → Type 0
+IsAdded (Ok (Some a)) old new = new ≡ old ++ a ∷ []
+IsAdded (Ok None) old new = new ≡ old
+IsAdded (Err e) old new = ⊥
 
 -- reading that stops is told; no fault is taken back
 abbrev pub IsToldIn : {A E : Type 0} → Result A E → List Fault → Type 0
@@ -46,3 +63,31 @@ IsToldIn (Err e) faults = faults ≢ []
 pub record Tells {A E : Type 0} (read : Result A E) (old new : List Fault) : Type 0 where
   pub still : old ≢ [] → new ≢ []
   pub told : IsToldIn read new
+
+-- the number of an attribute is set, if an argument says it
+abbrev pub Sets : Option (Option (List ℕ)) → Option ℕ → Option ℕ → Type 0
+Sets (Some argument) old new = IsNumberOf (Some argument) new
+Sets None old new = new ≡ old
+
+-- what an attribute says is read
+pub record Adds (a : Attribute) (old new : Attributes) : Type 0 where
+  pub size : Sets (argument_if name.Size a) old.size new.size
+  pub align : Sets (argument_if name.Align a) old.align new.align
+  pub group : Sets (argument_if name.Group a) old.group new.group
+  pub binding : Sets (argument_if name.Binding a) old.binding new.binding
+  pub id : Sets (argument_if name.Id a) old.id new.id
+  pub stage : new.stage ≡ option_or (stage_by a) old.stage
+
+-- nothing is said
+abbrev pub SameValues : Attributes → Attributes → Type 0
+SameValues old new = Adds (record { name = None; literal = None }) old new
+
+-- a constant that is an integer is that of the literal
+abbrev pub IsLiteral : List ℕ → Constant → Type 0
+IsLiteral text (constant.Integer i) = integer_of text ≡ Some i
+IsLiteral text other = Unit {0}
+
+-- the value of an argument, if that is one literal
+abbrev pub IsArgument : Option (List ℕ) → Value → Type 0
+IsArgument (Some text) (value.Known c) = IsLiteral text c
+IsArgument text other = Unit {0}

@@ -1,34 +1,26 @@
 -- What is known of a declaration while a module is read.
-use Rattle.std.specs.Prelude.{◌≡◌, ◌≢◌, ℕ, List, [], ◌∷◌, ◌++◌, Option, Some, None, IsTrue, false, drop, map, slice_get, take}
+use Rattle.std.specs.Prelude.{◌≡◌, ◌≢◌, ◌⊎◌, ℕ, List, [], ◌∷◌, ◌++◌, Option, Some, None, IsTrue, false, drop, map, slice_get, take}
 use Rattle.std.specs.List.{All}
 use Rattle.wgsl_reader.specs.declared.read.Event.{Event}
 use Rattle.wgsl_spelling.specs.Words.{word}
 use Rattle.wgsl_source.specs.Declarations.{AreSites, BehindAttributes, IsNamed, IsSite, Site, declaration_len, end_at, first_count, inner, list_len, token_before}
+use Rattle.wgsl_source.specs.TextDeclarations.{declared_by}
 use Rattle.wgsl_source.specs.TextStructs.{AreMembers}
 use Rattle.wgsl_source.specs.declared.declaration.Declaration.{Declaration}
-use Rattle.wgsl_source.specs.declared.declaration.DeclarationKind.{DeclarationKind}
 use Rattle.wgsl_source.specs.declared.declaration.DeclarationKind.TheVariants as kinds
 use Rattle.wgsl_source.specs.declared.declaration.Read.{Read}
 use Rattle.wgsl_source.specs.declared.listed.Listed.{Listed}
 use Rattle.wgsl_source.specs.declared.module.Reader.{Reader}
 use Rattle.wgsl_source.specs.declared.measured.TypeKind.{TypeKind}
 use Rattle.wgsl_source.specs.declared.measured.TypeKind.TheVariants as kind
-use Rattle.wgsl_source.specs.declared.parts.End.{End}
 use Rattle.wgsl_source.specs.declared.parts.End.TheVariants as e
+use Rattle.wgsl_source.specs.declared.measured.MeasuredType.{MeasuredType}
 use Rattle.wgsl_source.specs.declared.scope.Meaning.{Meaning}
+use Rattle.wgsl_source.specs.declared.scope.Scope.{Scope}
+use Rattle.wgsl_source.specs.WrittenTypes.{index_of, meaning_of}
 use Rattle.wgsl_source.specs.declared.scope.Meaning.TheVariants as meaning
 use Rattle.wgsl_source.specs.declared.structure.Struct.{Struct}
 use Rattle.wgsl_source.specs.declared.text.Text.{Text}
-
--- what is declared by what ends so
-abbrev pub declared_by : End → Option DeclarationKind
-declared_by e.Alias = Some kinds.Alias
-declared_by e.Struct = Some kinds.Struct
-declared_by e.Constant = Some kinds.Constant
-declared_by e.Override = Some kinds.Override
-declared_by e.Variable = Some kinds.Variable
-declared_by e.Function = Some kinds.Function
-declared_by other = None
 
 -- the next declaration, directive or assertion of some events
 pub record IsNext (t : Text) (events : List Event) (r : Read) : Type 0 where
@@ -87,6 +79,16 @@ pub record IsFrom (t : Text) (d : Declaration) (struct : Struct) : Type 0 where
   pub place : struct.place ≡ d.place
   pub members : AreMembers t d.rest.now struct.members.items
 
+-- each name has the index of a declaration with the name
+abbrev pub AreNamed : List Declaration → Scope → Type 0
+AreNamed ds s = (name : List ℕ) (index : ℕ) → index_of s name ≡ Some index → (d : Declaration) × (slice_get ds index ≡ Some d) × (d.name.now ≡ name)
+
+-- names keep their declarations, and their types once these are read
+pub record Stays (old new : Scope) : Type 0 where
+  pub names : new.names ≡ old.names
+  pub types : (name : List ℕ) (t : MeasuredType) → meaning_of old name ≡ Some (meaning.«Type» t) → meaning_of new name ≡ Some (meaning.«Type» t)
+  pub undeclared : (name : List ℕ) → meaning_of old name ≡ None → meaning_of new name ≡ None
+
 -- a struct that can be read is one of the text's
 pub record IsDeclaredAt (t : Text) (whole : List Event) (d : Declaration) : Type 0 where
   pub front : List Event
@@ -126,10 +128,21 @@ abbrev pub IsReadOfKind : Text → List Struct → Declaration → TypeKind → 
 IsReadOfKind t structs d (kind.Struct index) = IsReadAs t structs d index
 IsReadOfKind t structs d other = ⊥
 
--- what a declaration means: a struct the one that is read of it
+-- an alias or a struct that can be read means a type: a struct the one that is read of it
+pub record IsMeantType (t : Text) (structs : List Struct) (d : Declaration) (ty : MeasuredType) : Type 0 where
+  pub readable : d.is_faulty ≡ false
+  pub sort : (d.kind ≡ kinds.Struct) ⊎ (d.kind ≡ kinds.Alias)
+  pub struct : d.kind ≡ kinds.Struct → IsReadOfKind t structs d ty.kind
+
+-- what a declaration means
 abbrev pub IsMeant : Text → List Struct → Declaration → Meaning → Type 0
-IsMeant t structs d (meaning.«Type» ty) = d.kind ≡ kinds.Struct → IsReadOfKind t structs d ty.kind
+IsMeant t structs d (meaning.«Type» ty) = IsMeantType t structs d ty
 IsMeant t structs d _ = Unit {0}
+
+-- aliases and structs alone mean types
+abbrev pub IsOfSort : Declaration → Meaning → Type 0
+IsOfSort d (meaning.«Type» ty) = (d.kind ≡ kinds.Struct) ⊎ (d.kind ≡ kinds.Alias)
+IsOfSort d _ = Unit {0}
 
 pub data AreMeant (t : Text) (structs : List Struct) : List Declaration → List Meaning → Type 0 where
   none_meant : AreMeant t structs [] []

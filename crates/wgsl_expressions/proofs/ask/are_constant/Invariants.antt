@@ -1,7 +1,5 @@
-use Rattle.std.proofs.Common.{◌≡◌, drop, map}
+use Rattle.wgsl_expressions.proofs.Common.{◌≡◌, drop, map, is_constant, typed_view}
 use Rattle.std.specs.List.{list_all}
-use Rattle.wgsl_expressions.specs.Outcomes.{is_constant}
-use Rattle.wgsl_expressions.specs.Views.{typed_view}
 use Rattle.wgsl_expressions.proofs.ask.are_constant.Given as goal
 
 -- all are const-expressions if those that are left are

@@ -1,7 +1,4 @@
-use Rattle.std.proofs.Common.{◌≡◌, map, take}
-use Rattle.wgsl_requests.specs.StandardViews.{written_view}
-use Rattle.wgsl_expressions.specs.Outcomes.{operand_by}
-use Rattle.wgsl_expressions.specs.Views.{head_view, typed_view}
+use Rattle.wgsl_expressions.proofs.Common.{◌≡◌, map, take, written_view, operand_by, head_view, typed_view}
 use Rattle.wgsl_expressions.proofs.ask.operands_by.Given as goal
 
 -- an operand for each part so far

@@ -1,6 +1,5 @@
-use Rattle.std.proofs.Common.{◌≡◌, ◌<◌, length, ap, ◌∙◌, arith, rules}
-use Rattle.std.proofs.lemmas.Grind.{common_steps}
-use Rattle.wgsl_expressions.proofs.Operands.{one_more, same_length}
+use Rattle.wgsl_expressions.proofs.Common.{◌≡◌, ◌<◌, length, ap, ◌∙◌, arith, rules, common_steps}
+use Rattle.wgsl_expressions.proofs.AskedTokens.{one_more, same_length}
 use Rattle.wgsl_expressions.proofs.expression.all_as_operands.Goals as goal
 
 pub loop-at-preserved : goal.loop-at-preserved

@@ -1,6 +1,4 @@
-use Rattle.std.proofs.Common.{◌≡◌, ◌<◌, [], None, Ok, Some, ap, length, refl, subst, sym, arith}
-use Rattle.std.proofs.lemmas.Grind.{common_steps}
-use Rattle.std.proofs.lemmas.List.{nil_from_length}
+use Rattle.wgsl_expressions.proofs.Common.{◌≡◌, ◌<◌, [], None, Ok, Some, ap, length, refl, subst, sym, arith, common_steps, nil_from_length}
 use Rattle.wgsl_expressions.specs.Typing.{LineIs}
 use Rattle.wgsl_expressions.proofs.Steps.{fails, line_with}
 use Rattle.wgsl_expressions.proofs.expression.item_of_asked.Goals as goal

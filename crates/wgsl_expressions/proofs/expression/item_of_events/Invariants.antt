@@ -1,7 +1,6 @@
-use Rattle.std.proofs.Common.{◌≤◌, ◌-◌, Option, Some, [], drop, length}
+use Rattle.wgsl_expressions.proofs.Common.{◌≤◌, ◌-◌, Option, Some, [], drop, length, items_view, scope_view, source_view}
 use Rattle.wgsl_expressions.specs.Stack.{Item}
 use Rattle.wgsl_expressions.specs.Typing.{Comes}
-use Rattle.wgsl_expressions.specs.Views.{items_view, scope_view, source_view}
 use Rattle.wgsl_expressions.proofs.expression.item_of_events.Given as goal
 
 -- what comes of all that is noted is what comes of the names and items so far by what is left

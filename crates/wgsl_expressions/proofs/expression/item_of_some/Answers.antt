@@ -1,16 +1,7 @@
-use Rattle.std.proofs.Common.{◌≡◌, ◌∙◌, ℕ, [], List, Result, ap, arith, length, subst}
-use Rattle.std.proofs.lemmas.Grind.{common_steps}
-use Rattle.std.proofs.lemmas.List.{take_at}
-use Rattle.wgsl_core.specs.declared.error.Fail.{Fail}
-use Rattle.wgsl_reader.specs.declared.rule.Rule.TheVariants.{Request}
-use Rattle.wgsl_reader.specs.declared.token.Token.{Token}
-use Rattle.wgsl_reader.specs.declared.kind.Kind.TheVariants.{End}
-use Rattle.wgsl_expressions.specs.RequestTokens.{asked_behind}
-use Rattle.wgsl_expressions.specs.Scopes.{Scope}
+use Rattle.wgsl_expressions.proofs.Common.{◌≡◌, ◌∙◌, ℕ, [], List, Result, ap, arith, length, subst, common_steps, take_at, Fail, Request, Token, End}
+use Rattle.wgsl_expressions.proofs.Common.{asked_behind, Scope, Finds, Misread}
 use Rattle.wgsl_expressions.specs.Typing.{TokensAre}
-use Rattle.wgsl_expressions.specs.Views.{Finds}
 use Rattle.wgsl_expressions.specs.declared.item.Item.{Item}
-use Rattle.wgsl_expressions.specs.declared.misread.Misread.{Misread}
 use Rattle.wgsl_expressions.proofs.AskedTokens.{as_many}
 use Rattle.wgsl_expressions.proofs.expression.item_of_some.Goals as goal
 

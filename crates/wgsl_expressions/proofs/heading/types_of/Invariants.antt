@@ -1,5 +1,4 @@
-use Rattle.std.proofs.Common.{◌≡◌, map}
-use Rattle.wgsl_core.specs.View.{member_view, view}
+use Rattle.wgsl_expressions.proofs.Common.{◌≡◌, map, member_view, view}
 use Rattle.wgsl_expressions.proofs.heading.types_of.Given as goal
 
 -- the type of each member so far

@@ -1,4 +1,4 @@
-use Rattle.wgsl_expressions.proofs.OneReply.{one_standard_reply}
+use Rattle.wgsl_expressions.proofs.OneOutcome.{one_standard_reply}
 use Rattle.wgsl_expressions.proofs.laws.one_reply.Goals as goal
 
 pub returns : goal.returns

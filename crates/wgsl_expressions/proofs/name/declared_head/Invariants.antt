@@ -1,5 +1,4 @@
-use Rattle.std.proofs.Common.{◌≡◌, map, take}
-use Rattle.wgsl_core.specs.View.{view}
+use Rattle.wgsl_expressions.proofs.Common.{◌≡◌, map, take, view}
 use Rattle.wgsl_expressions.proofs.name.declared_head.Given as goal
 
 -- a copy of each type so far

@@ -1,7 +1,4 @@
-use Rattle.std.proofs.Common.{◌≡◌, map, take}
-use Rattle.wgsl_requests.specs.StandardViews.{written_view}
-use Rattle.wgsl_expressions.specs.Outcomes.{operand}
-use Rattle.wgsl_expressions.specs.Views.{typed_view}
+use Rattle.wgsl_expressions.proofs.Common.{◌≡◌, map, take, written_view, operand, typed_view}
 use Rattle.wgsl_expressions.proofs.reply.operands_of.Given as goal
 
 -- an operand for each value so far

@@ -1,5 +1,4 @@
-use Rattle.std.proofs.Common.{◌<◌, length, sym, arith, rules}
-use Rattle.std.proofs.lemmas.Grind.{common_steps}
+use Rattle.wgsl_expressions.proofs.Common.{◌<◌, length, sym, arith, rules, common_steps}
 use Rattle.wgsl_expressions.proofs.AskedTokens.{asked_next}
 use Rattle.wgsl_expressions.proofs.request_token.as_asked.Goals as goal
 

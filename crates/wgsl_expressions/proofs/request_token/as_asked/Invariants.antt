@@ -1,6 +1,4 @@
-use Rattle.std.proofs.Common.{◌≡◌, ◌≤◌, ◌-◌, ◌++◌, drop, length, take}
-use Rattle.wgsl_reader.specs.declared.kind.Kind.TheVariants.{End}
-use Rattle.wgsl_expressions.specs.RequestTokens.{asked_behind}
+use Rattle.wgsl_expressions.proofs.Common.{◌≡◌, ◌≤◌, ◌-◌, ◌++◌, drop, length, take, End, asked_behind}
 use Rattle.wgsl_expressions.proofs.request_token.as_asked.Given as goal
 
 -- those so far, and those that the tokens that are left become

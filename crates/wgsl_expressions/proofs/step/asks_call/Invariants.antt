@@ -1,5 +1,4 @@
-use Rattle.std.proofs.Common.{◌≡◌, drop}
-use Rattle.wgsl_expressions.specs.Steps.{asks_call}
+use Rattle.wgsl_expressions.proofs.Common.{◌≡◌, drop, asks_call}
 use Rattle.wgsl_expressions.proofs.step.asks_call.Given as goal
 
 -- those that are left ask as all do

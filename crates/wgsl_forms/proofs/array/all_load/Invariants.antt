@@ -1,6 +1,5 @@
 use Rattle.std.proofs.Common.{◌≡◌, drop}
-use Rattle.wgsl_standard.specs.Texts.{types_given}
-use Rattle.wgsl_forms.specs.Array.{all_load}
+use Rattle.wgsl_forms.proofs.Common.{types_given, all_load}
 use Rattle.wgsl_forms.proofs.array.all_load.Given as goal
 
 abbrev pub invariant-loop-value : goal.invariant-loop-value

@@ -1,7 +1,5 @@
-use Rattle.std.proofs.Common.{◌+◌, Some, None, subst}
-use Rattle.std.specs.Prelude.{option_map}
-use Rattle.wgsl_rules.specs.conversion.Common.{IsCommon}
-use Rattle.wgsl_standard.specs.Operands.{given_type}
+use Rattle.std.proofs.Common.{◌+◌, Some, None, subst, option_map}
+use Rattle.wgsl_forms.proofs.Common.{IsCommon, given_type}
 use Rattle.wgsl_forms.proofs.CommonElements.{one_more, none_left, at_end, from_all}
 use Rattle.wgsl_forms.proofs.array.common_element.Goals as goal
 

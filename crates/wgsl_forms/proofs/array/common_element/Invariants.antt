@@ -1,9 +1,5 @@
 use Rattle.std.proofs.Common.{Option, Some, drop, map}
-use Rattle.wgsl_rules.specs.types.Types.{WgslType}
-use Rattle.wgsl_rules.proofs.conversion.Folds.{IsFoldedFrom}
-use Rattle.wgsl_standard.specs.Operands.{given_type}
-use Rattle.wgsl_standard.specs.Texts.{types_given}
-use Rattle.wgsl_forms.specs.Array.{referred}
+use Rattle.wgsl_forms.proofs.Common.{WgslType, IsFoldedFrom, given_type, types_given, referred}
 use Rattle.wgsl_forms.proofs.array.common_element.Given as goal
 
 -- the rest gives from here the same as the whole

@@ -1,10 +1,6 @@
-use Rattle.std.proofs.Common.{[], ◌∷◌, None, subst}
-use Rattle.std.specs.Prelude.{option_map}
-use Rattle.wgsl_rules.specs.standard.Choice.{IsChosen}
-use Rattle.wgsl_rules.specs.standard.Operators.{binary_overloads}
-use Rattle.wgsl_standard.specs.Operands.{operand_view}
+use Rattle.std.proofs.Common.{[], ◌∷◌, None, subst, option_map}
+use Rattle.wgsl_forms.proofs.Common.{IsChosen, binary_overloads, operand_view, answer_none}
 use Rattle.wgsl_standard.specs.internal.Choices.{choice_view}
-use Rattle.wgsl_standard.proofs.StandardAnswers.{answer_none}
 use Rattle.wgsl_forms.proofs.Values.{value_answer}
 use Rattle.wgsl_forms.proofs.assign.result_by.Goals as goal
 

@@ -1,5 +1,4 @@
-use Rattle.wgsl_core.specs.View.{view}
-use Rattle.wgsl_core.specs.internal.Forms.{layers}
+use Rattle.wgsl_forms.proofs.Common.{view, layers}
 use Rattle.wgsl_forms.proofs.concrete.+concrete.Given as goal
 
 abbrev pub decreases-concrete : goal.decreases-concrete

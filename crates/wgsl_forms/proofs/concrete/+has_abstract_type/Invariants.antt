@@ -1,5 +1,4 @@
-use Rattle.wgsl_core.specs.View.{view}
-use Rattle.wgsl_core.specs.internal.Forms.{layers}
+use Rattle.wgsl_forms.proofs.Common.{view, layers}
 use Rattle.wgsl_forms.proofs.concrete.+has_abstract_type.Given as goal
 
 abbrev pub decreases-has_abstract_type : goal.decreases-has_abstract_type

@@ -1,5 +1,4 @@
-use Rattle.wgsl_core.specs.View.{view}
-use Rattle.wgsl_core.specs.internal.Forms.{layers}
+use Rattle.wgsl_forms.proofs.Common.{view, layers}
 use Rattle.wgsl_forms.proofs.concrete.+write_concrete.Given as goal
 
 abbrev pub decreases-write_concrete : goal.decreases-write_concrete

@@ -1,5 +1,4 @@
-use Rattle.std.proofs.Common.{◌∙◌, ap, sym}
-use Rattle.std.specs.Prelude.{option_and_then}
+use Rattle.std.proofs.Common.{◌∙◌, ap, sym, option_and_then}
 use Rattle.wgsl_forms.specs.internal.Results.{abstract_name}
 use Rattle.wgsl_forms.proofs.AbstractResults.{recognised}
 use Rattle.wgsl_forms.proofs.concrete.abstract_result.Goals as goal

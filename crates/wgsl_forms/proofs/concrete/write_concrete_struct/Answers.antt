@@ -1,6 +1,5 @@
 use Rattle.std.proofs.Common.{◌∙◌, ap, sym}
-use Rattle.std.proofs.Output.{has_written_of_eq}
-use Rattle.wgsl_syntax.specs.ResultStruct.{result_name}
+use Rattle.wgsl_forms.proofs.Common.{has_written_of_eq, result_name}
 use Rattle.wgsl_forms.proofs.ResultTexts.{concrete_text}
 use Rattle.wgsl_forms.proofs.concrete.write_concrete_struct.Goals as goal
 

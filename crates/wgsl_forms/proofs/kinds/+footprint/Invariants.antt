@@ -1,6 +1,5 @@
 use Rattle.std.proofs.Common.{◌≡◌, drop}
-use Rattle.wgsl_core.specs.internal.View.{members_view}
-use Rattle.wgsl_forms.specs.Kinds.{have_fixed_footprint}
+use Rattle.wgsl_forms.proofs.Common.{members_view, have_fixed_footprint}
 use Rattle.wgsl_forms.proofs.kinds.+footprint.Given as goal
 
 abbrev pub invariant-have_fixed_footprint-loop-member : goal.invariant-have_fixed_footprint-loop-member

@@ -1,6 +1,5 @@
 use Rattle.std.proofs.Common.{◌≡◌, drop}
-use Rattle.wgsl_core.specs.internal.View.{members_view}
-use Rattle.wgsl_forms.specs.Kinds.{are_host_shareable}
+use Rattle.wgsl_forms.proofs.Common.{members_view, are_host_shareable}
 use Rattle.wgsl_forms.proofs.kinds.+host_shareable.Given as goal
 
 abbrev pub invariant-are_host_shareable-loop-member : goal.invariant-are_host_shareable-loop-member

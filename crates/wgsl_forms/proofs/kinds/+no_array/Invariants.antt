@@ -1,6 +1,5 @@
 use Rattle.std.proofs.Common.{◌≡◌, drop}
-use Rattle.wgsl_core.specs.internal.View.{members_view}
-use Rattle.wgsl_forms.specs.Kinds.{have_no_array}
+use Rattle.wgsl_forms.proofs.Common.{members_view, have_no_array}
 use Rattle.wgsl_forms.proofs.kinds.+no_array.Given as goal
 
 abbrev pub invariant-have_no_array-loop-member : goal.invariant-have_no_array-loop-member

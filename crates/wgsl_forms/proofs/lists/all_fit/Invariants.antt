@@ -1,7 +1,5 @@
 use Rattle.std.proofs.Common.{◌≡◌, drop}
-use Rattle.wgsl_core.specs.View.{view}
-use Rattle.wgsl_standard.specs.Texts.{types_given}
-use Rattle.wgsl_forms.specs.Lists.{all_fit}
+use Rattle.wgsl_forms.proofs.Common.{view, types_given, all_fit}
 use Rattle.wgsl_forms.proofs.lists.all_fit.Given as goal
 
 abbrev pub invariant-loop-value : goal.invariant-loop-value

@@ -1,6 +1,5 @@
 use Rattle.std.proofs.Common.{◌≡◌, drop, map}
-use Rattle.wgsl_core.specs.View.{view}
-use Rattle.wgsl_forms.specs.Lists.{are_parameters}
+use Rattle.wgsl_forms.proofs.Common.{view, are_parameters}
 use Rattle.wgsl_forms.proofs.lists.are_parameters.Given as goal
 
 abbrev pub invariant-loop-ty : goal.invariant-loop-ty

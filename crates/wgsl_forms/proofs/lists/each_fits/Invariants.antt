@@ -1,7 +1,5 @@
 use Rattle.std.proofs.Common.{◌≡◌, drop, map}
-use Rattle.wgsl_core.specs.View.{view}
-use Rattle.wgsl_standard.specs.Texts.{types_given}
-use Rattle.wgsl_forms.specs.Lists.{each_fits}
+use Rattle.wgsl_forms.proofs.Common.{view, types_given, each_fits}
 use Rattle.wgsl_forms.proofs.lists.each_fits.Given as goal
 
 abbrev pub invariant-loop-i : goal.invariant-loop-i

@@ -1,5 +1,4 @@
-use Rattle.std.proofs.Common.{◌∙◌}
-use Rattle.std.proofs.lemmas.Bool.{ne_eqb}
+use Rattle.std.proofs.Common.{◌∙◌, ne_eqb}
 use Rattle.wgsl_forms.proofs.Letters.{first, later, never, nowhere}
 use Rattle.wgsl_forms.proofs.member.is_among.Goals as goal
 

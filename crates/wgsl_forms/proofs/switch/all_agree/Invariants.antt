@@ -1,6 +1,5 @@
 use Rattle.std.proofs.Common.{◌≡◌, drop, map}
-use Rattle.wgsl_forms.specs.Switch.{all_agree}
-use Rattle.wgsl_forms.specs.Views.{given}
+use Rattle.wgsl_forms.proofs.Common.{all_agree, given}
 use Rattle.wgsl_forms.proofs.switch.all_agree.Given as goal
 
 abbrev pub invariant-loop-value : goal.invariant-loop-value

@@ -1,6 +1,5 @@
 use Rattle.std.proofs.Common.{◌≡◌, drop, map}
-use Rattle.wgsl_forms.specs.Switch.{are_constant}
-use Rattle.wgsl_forms.specs.Views.{given}
+use Rattle.wgsl_forms.proofs.Common.{are_constant, given}
 use Rattle.wgsl_forms.proofs.switch.are_constant.Given as goal
 
 abbrev pub invariant-loop-value : goal.invariant-loop-value

@@ -1,6 +1,5 @@
 use Rattle.std.proofs.Common.{◌≡◌, drop, map}
-use Rattle.wgsl_forms.specs.Switch.{are_integers}
-use Rattle.wgsl_forms.specs.Views.{given}
+use Rattle.wgsl_forms.proofs.Common.{are_integers, given}
 use Rattle.wgsl_forms.proofs.switch.are_integers.Given as goal
 
 abbrev pub invariant-loop-value : goal.invariant-loop-value

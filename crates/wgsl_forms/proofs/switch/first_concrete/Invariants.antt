@@ -1,6 +1,5 @@
 use Rattle.std.proofs.Common.{◌≡◌, drop, map}
-use Rattle.wgsl_forms.specs.Switch.{first_concrete}
-use Rattle.wgsl_forms.specs.Views.{given}
+use Rattle.wgsl_forms.proofs.Common.{first_concrete, given}
 use Rattle.wgsl_forms.proofs.switch.first_concrete.Given as goal
 
 abbrev pub invariant-loop-value : goal.invariant-loop-value

@@ -1,8 +1,5 @@
-use Rattle.std.proofs.Common.{◌≡◌, refl, subst, ◌∙◌}
-use Rattle.std.specs.Prelude.{◌&&◌}
-use Rattle.wgsl_core.specs.View.{member_view}
-use Rattle.wgsl_core.specs.internal.View.{members_view}
-use Rattle.wgsl_forms.specs.Variable.{may_end, may_end_members}
+use Rattle.std.proofs.Common.{◌≡◌, refl, subst, ◌∙◌, ◌&&◌}
+use Rattle.wgsl_forms.proofs.Common.{member_view, members_view, may_end, may_end_members}
 use Rattle.wgsl_forms.proofs.Footprints.{last_ends}
 use Rattle.wgsl_forms.proofs.variable.members_end_in_array.Goals as goal
 

@@ -1,6 +1,4 @@
-use Rattle.std.proofs.Common.{◌∙◌, ap, arith, eqb, sym, w8}
-use Rattle.std.specs.Simd.Lanes.{chunk}
-use Rattle.std.proofs.lemmas.Simd.{bitmask_splat, leading_from_mask_l, length-chunk, trailing_mask_l}
+use Rattle.wgsl_lines.proofs.Common.{◌∙◌, ap, arith, eqb, sym, w8, chunk, bitmask_splat, leading_from_mask_l, length-chunk, trailing_mask_l}
 use lib.Count.{count_trailing_zeros}
 use Rattle.wgsl_lines.proofs.line.next_without_feed.Goals as goal
 

@@ -1,14 +1,9 @@
-use Rattle.std.proofs.Common.{◌≡◌, ◌∙◌, ℕ, List, [], ◌++◌, ap, arith, Result, Ok, Err, subst, sym, take}
-use Rattle.std.proofs.lemmas.Grind.{common_steps}
-use Rattle.std.proofs.lemmas.List.{nil_from_length}
+use Rattle.wgsl_lines.proofs.Common.{◌≡◌, ◌∙◌, ℕ, List, [], ◌++◌, ap, arith, Result, Ok, Err, subst, sym, take, common_steps, nil_from_length, WritesReply}
+use Rattle.wgsl_lines.proofs.Common.{answer, IsReplyToLine, RuleSet, reply_of_kind}
 use Rattle.std.specs.Prelude.{IfOk}
 use Rattle.wgsl_requests.specs.declared.reply.ReplyKind.{ReplyKind}
 use Rattle.wgsl_requests.specs.declared.reply.ReplyKind.TheVariants as k
-use Rattle.wgsl_requests.specs.Replies.{WritesReply, answer}
-use Rattle.wgsl_replies.specs.Replies.{IsReplyToLine}
-use Rattle.wgsl_syntax.specs.declared.rules.RuleSet.{RuleSet}
-use Rattle.wgsl_lines.specs.Session.{reply_of_kind}
-use Rattle.wgsl_lines.proofs.Replies.{of_cut}
+use Rattle.wgsl_lines.proofs.Taken.{of_cut}
 use Rattle.wgsl_lines.proofs.run.write_reply_to.Goals as goal
 
 -- what is written to an empty text

@@ -1,6 +1,5 @@
-use Rattle.std.proofs.Common.{◌≡◌, arith, drop, rules, subst, sym, ap}
-use Rattle.std.proofs.lemmas.Grind.{common_steps}
-use Rattle.wgsl_lines.proofs.Bytes.{IsWritten, appends_kept, written_more}
+use Rattle.wgsl_lines.proofs.Common.{◌≡◌, arith, drop, rules, subst, sym, ap, common_steps}
+use Rattle.wgsl_lines.proofs.Steps.{IsWritten, appends_kept, written_more}
 use Rattle.wgsl_lines.proofs.run.write_whole.Goals.{in-Ok, in-Err}
 use Rattle.wgsl_lines.proofs.run.write_whole.Goals as goal
 

@@ -1,4 +1,4 @@
-use Rattle.wgsl_lines.proofs.Bytes.{IsWritten}
+use Rattle.wgsl_lines.proofs.Steps.{IsWritten}
 use Rattle.wgsl_lines.proofs.run.write_whole.Given as goal
 
 abbrev pub invariant-loop : goal.invariant-loop

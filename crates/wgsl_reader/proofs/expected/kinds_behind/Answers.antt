@@ -1,11 +1,6 @@
-use Rattle.std.proofs.Common.{◌≡◌, ◌∷◌, ◌++◌, [], List, rules, refl, map, subst, sym}
-use Rattle.std.specs.List.{All}
+use Rattle.std.proofs.Common.{◌≡◌, ◌∷◌, ◌++◌, [], List, rules, refl, map, subst, sym, All}
 use Rattle.std.proofs.lemmas.List.Elements.{All-push}
-use Rattle.wgsl_reader.specs.Expected.{MayStand}
-use Rattle.wgsl_reader.specs.Reading.{kind_of}
-use Rattle.wgsl_reader.specs.declared.rule.Rule.{Rule}
-use Rattle.wgsl_reader.specs.declared.kind.Kind.{Kind}
-use Rattle.wgsl_reader.specs.declared.token.Token.{Token}
+use Rattle.wgsl_reader.proofs.Common.{MayStand, kind_of, Rule, Kind, Token}
 use Rattle.wgsl_reader.proofs.expected.kinds_behind.Goals as goal
 
 one_more : (rule : Rule) (tokens tried : List Token) (found more : List Kind) (kind : Kind) → more ≡ found ++ kind ∷ [] → tried ≡ tokens → All (MayStand rule (map kind_of tokens)) found

@@ -1,7 +1,5 @@
-use Rattle.std.proofs.Common.{◌≡◌, map}
-use Rattle.std.specs.List.{All}
-use Rattle.wgsl_reader.specs.Expected.{MayStand}
-use Rattle.wgsl_reader.specs.Reading.{kind_of}
+use Rattle.std.proofs.Common.{◌≡◌, map, All}
+use Rattle.wgsl_reader.proofs.Common.{MayStand, kind_of}
 use Rattle.wgsl_reader.proofs.expected.kinds_behind.Given as goal
 
 abbrev pub invariant-loop-kind : goal.invariant-loop-kind

@@ -1,7 +1,5 @@
 use Rattle.std.proofs.Common.{◌≡◌, ◌++◌, map, option_map, refl, slice_get, sym, ap, ◌∙◌}
-use denote.Enum.Declared.{tag_of}
-use Rattle.wgsl_reader.specs.contracts.rule.Rule.{the_type as rule_type}
-use Rattle.wgsl_reader.specs.Grammar.{row_of, rules}
+use Rattle.wgsl_reader.proofs.Common.{tag_of, the_type as rule_type, row_of, rules}
 use Rattle.wgsl_reader.proofs.Rows.{row_found}
 use Rattle.wgsl_reader.proofs.grammar.lines.Goals as goal
 

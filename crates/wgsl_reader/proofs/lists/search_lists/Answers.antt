@@ -1,6 +1,5 @@
 use Rattle.std.proofs.Common.{refl, ap, ◌∙◌}
-use Rattle.wgsl_reader.specs.Lists.{joined}
-use Rattle.wgsl_reader.specs.Seen.{search_of}
+use Rattle.wgsl_reader.proofs.Common.{joined, search_of}
 use Rattle.wgsl_reader.proofs.Found.{stepped}
 use Rattle.wgsl_reader.proofs.lists.search_lists.Goals as goal
 

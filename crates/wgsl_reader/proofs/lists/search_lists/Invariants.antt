@@ -1,6 +1,5 @@
 use Rattle.std.proofs.Common.{◌≡◌, ◌-◌, drop, length}
-use Rattle.wgsl_reader.specs.Lists.{found_from, with_lists}
-use Rattle.wgsl_reader.specs.Seen.{search_of}
+use Rattle.wgsl_reader.proofs.Common.{found_from, with_lists, search_of}
 use Rattle.wgsl_reader.proofs.lists.search_lists.Given as goal
 
 -- what is found so far, and what is found in the tokens that are left

@@ -1,6 +1,5 @@
 use Rattle.std.proofs.Common.{ap, refl, map, rules, ◌∙◌}
-use Rattle.wgsl_reader.specs.Modules.{ReadsModule, declaration_len}
-use Rattle.wgsl_reader.specs.Reading.{kind_of, outcome_of}
+use Rattle.wgsl_reader.proofs.Common.{ReadsModule, declaration_len, kind_of, outcome_of}
 use Rattle.wgsl_reader.proofs.Declarations.{all_read, one_more}
 use Rattle.wgsl_reader.proofs.module.read_module.Goals as goal
 

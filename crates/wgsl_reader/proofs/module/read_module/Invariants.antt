@@ -1,8 +1,5 @@
 use Rattle.std.proofs.Common.{◌≡◌, ◌++◌, ◌≤◌, ◌-◌, List, drop, length, map}
-use Rattle.wgsl_reader.specs.Modules.{ReadsFrom, ReadsModule}
-use Rattle.wgsl_reader.specs.Reading.{kind_of}
-use Rattle.wgsl_reader.specs.declared.module.Misread.{Misread}
-use Rattle.wgsl_reader.specs.declared.read.Event.{Event}
+use Rattle.wgsl_reader.proofs.Common.{ReadsFrom, ReadsModule, kind_of, Misread, Event}
 use Rattle.wgsl_reader.proofs.module.read_module.Given as goal
 
 -- whatever is read of the tokens that are left, the whole is that behind what is read so far

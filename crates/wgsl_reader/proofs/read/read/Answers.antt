@@ -1,10 +1,6 @@
 use Rattle.std.proofs.Common.{◌≡◌, ℕ, List, ◌∷◌, [], ◌++◌, ◌+◌, ◌<◌, None, Some, drop, length, map, refl, sym, ap, ◌∙◌, rules, arith}
-use Rattle.wgsl_reader.specs.Grammar.{production}
-use Rattle.wgsl_reader.specs.Reading.{Outcome, ReadAt, kind_of, next_kind}
-use Rattle.wgsl_reader.specs.declared.rule.Rule.{Rule}
+use Rattle.wgsl_reader.proofs.Common.{production, Outcome, ReadAt, kind_of, next_kind, Rule, Token, below}
 use Rattle.wgsl_reader.specs.declared.grammar.Symbol.TheVariants.{Rule as rule, Mark as note, Token as token}
-use Rattle.wgsl_reader.specs.declared.token.Token.{Token}
-use Rattle.wgsl_reader.specs.Frames.{below}
 use Rattle.wgsl_reader.proofs.Frames.{below_pushed}
 use Rattle.wgsl_reader.proofs.Steps.{all_taken, frame_taken, mark_noted, rule_missing, rule_opened, some_left_over, token_missing, token_taken}
 use Rattle.wgsl_reader.proofs.Weights.{marked, opened, popped}

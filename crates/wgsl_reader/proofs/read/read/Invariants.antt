@@ -1,7 +1,6 @@
 use Rattle.std.proofs.Common.{◌≡◌, ◌∷◌, [], ◌++◌, ◌≤◌, ◌-◌, drop, map, length}
-use Rattle.wgsl_reader.specs.Reading.{Outcome, ReadAt, kind_of, next_kind, with_events}
+use Rattle.wgsl_reader.proofs.Common.{Outcome, ReadAt, kind_of, next_kind, with_events, below}
 use Rattle.wgsl_reader.specs.declared.grammar.Symbol.TheVariants.{Rule as rule}
-use Rattle.wgsl_reader.specs.Frames.{below}
 use Rattle.wgsl_reader.proofs.Weights.{left}
 use Rattle.wgsl_reader.proofs.read.read.Given as goal
 

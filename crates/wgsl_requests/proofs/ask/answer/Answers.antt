@@ -1,15 +1,10 @@
-use Rattle.std.proofs.Common.{ap, map, sym, ◌∙◌}
-use Rattle.std.specs.Prelude.{option_map}
+use Rattle.wgsl_requests.proofs.Shared.{ap, map, sym, ◌∙◌, option_map, struct_view, view, unary, ctor, call, list_fits, taker_view}
 use Rattle.wgsl_rules.specs.operators.Answers.{IsUnaryAnswer}
 use Rattle.wgsl_rules.specs.constructors.Constructors.{IsConstructorAnswer}
 use Rattle.wgsl_rules.specs.calls.Answers.{IsCallAnswer}
-use Rattle.wgsl_core.specs.View.{struct_view, view}
-use Rattle.wgsl_requests.specs.Requests.{unary, ctor, call}
 use Rattle.wgsl_requests.specs.Answers.{a_type, a_value, rank_is, unary_is, binary_is, size_is, offsets_are, layout_is, ctor_is, call_is, type_of_is, resolution_of_is, explanation_of_is, unknown_is, overloads_of_are, form_is, fit_is}
 use Rattle.wgsl_calls.specs.Calls.{signature_of}
-use Rattle.wgsl_forms.specs.Lists.{list_fits}
-use Rattle.wgsl_forms.specs.Views.{taker_view}
-use Rattle.wgsl_requests.proofs.Noted.{same_types}
+use Rattle.wgsl_requests.proofs.Overloaded.{same_types}
 use Rattle.wgsl_requests.proofs.Settled.{settles, offsets_seen, layout_seen}
 use Rattle.wgsl_requests.proofs.ask.answer.Goals as goal
 

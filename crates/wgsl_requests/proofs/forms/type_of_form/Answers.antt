@@ -1,11 +1,6 @@
-use Rattle.std.proofs.Common.{ap, map, subst, sym, ◌∙◌}
-use Rattle.wgsl_core.specs.View.{view}
-use Rattle.wgsl_rules.specs.standard.Choice.{types_of}
+use Rattle.wgsl_requests.proofs.Shared.{ap, map, subst, sym, ◌∙◌, view, types_of, constructed, answer_view, unbuilt_view, written_view}
 use Rattle.wgsl_forms.specs.Array.{IsInferredArray, typed_array}
-use Rattle.wgsl_forms.specs.Lists.{constructed}
-use Rattle.wgsl_forms.specs.Views.{answer_view, unbuilt_view}
-use Rattle.wgsl_requests.specs.StandardViews.{written_view}
-use Rattle.wgsl_requests.proofs.Noted.{same_types}
+use Rattle.wgsl_requests.proofs.Overloaded.{same_types}
 use Rattle.wgsl_requests.proofs.forms.type_of_form.Goals as goal
 
 pub returns-in-Construct : goal.returns-in-Construct

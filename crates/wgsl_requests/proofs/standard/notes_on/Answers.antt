@@ -1,4 +1,4 @@
-use Rattle.wgsl_requests.proofs.Noted.{all_explained}
+use Rattle.wgsl_requests.proofs.Overloaded.{all_explained}
 use Rattle.wgsl_requests.proofs.standard.notes_on.Goals as goal
 
 pub returns : goal.returns

@@ -1,5 +1,4 @@
-use Rattle.wgsl_standard.specs.Callees.{callee_view}
-use Rattle.wgsl_standard.specs.Resolved.{IsCallResolution, resolved_view}
+use Rattle.wgsl_requests.proofs.Shared.{callee_view, IsCallResolution, resolved_view}
 use Rattle.wgsl_requests.proofs.Overloaded.{answered}
 use Rattle.wgsl_requests.proofs.standard.resolution_of.Goals as goal
 

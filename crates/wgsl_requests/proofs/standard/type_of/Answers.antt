@@ -1,7 +1,4 @@
-use Rattle.std.proofs.Common.{false, true}
-use Rattle.std.specs.Prelude.{option_map}
-use Rattle.wgsl_rules.specs.standard.Answers.{IsCallAnswer}
-use Rattle.wgsl_standard.specs.Callees.{overloads_of}
+use Rattle.wgsl_requests.proofs.Shared.{false, true, option_map, IsCallAnswer, overloads_of}
 use Rattle.wgsl_standard.specs.Results.{result_view}
 use Rattle.wgsl_requests.proofs.Overloaded.{answered}
 use Rattle.wgsl_requests.proofs.standard.type_of.Goals as goal

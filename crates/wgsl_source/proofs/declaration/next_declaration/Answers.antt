@@ -1,5 +1,4 @@
-use Rattle.std.proofs.Common.{ap, arith, refl, length, ◌∙◌}
-use Rattle.std.proofs.lemmas.List.{length-drop}
+use Rattle.std.proofs.Common.{ap, arith, refl, length, ◌∙◌, length-drop}
 use Rattle.wgsl_source.specs.Declarations.{end_by, list_len, token_before}
 use Rattle.wgsl_source.proofs.Sites.{is_next, no_longer}
 use Rattle.wgsl_source.proofs.declaration.next_declaration.Goals as goal

@@ -1,6 +1,5 @@
 use Rattle.std.proofs.Common.{ℕ, Option, subst, sym}
-use Rattle.wgsl_rules.specs.layout.Layout.{IsArraySize, IsExactly}
-use Rattle.wgsl_core.specs.Placing.{IsValue}
+use Rattle.wgsl_source.proofs.Common.{IsArraySize, IsExactly, IsValue}
 use Rattle.wgsl_source.proofs.measured.array_size.Goals as goal
 
 pub returns-in-Some : goal.returns-in-Some

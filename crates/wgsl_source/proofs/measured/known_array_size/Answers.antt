@@ -1,6 +1,5 @@
 use Rattle.std.proofs.Common.{Some, refl}
-use Rattle.wgsl_rules.proofs.layout.Steps.{counted_size}
-use Rattle.wgsl_core.specs.Placing.{IsValue}
+use Rattle.wgsl_source.proofs.Common.{counted_size, IsValue}
 use Rattle.wgsl_source.proofs.measured.known_array_size.Goals as goal
 
 pub returns : goal.returns

@@ -1,13 +1,11 @@
-use Rattle.std.proofs.Common.{◌≢◌, [], map, sym, subst, ◌∙◌}
-use Rattle.std.specs.List.{All}
-use Rattle.wgsl_source.specs.TextStructs.{AreAllTold, IsDeclared}
-use Rattle.wgsl_source.specs.TextVariables.{AreVariables}
-use Rattle.wgsl_source.specs.internal.Others.{AddsKept, IsNoVariableOf, IsVariableOf}
-use Rattle.wgsl_source.specs.internal.Read.{AreAll, AreListed, IsDeclaration, KnownAll, names_of}
-use Rattle.wgsl_source.specs.declared.text.Text.{Text}
-use Rattle.wgsl_source.proofs.Declarations.{all_declarations, all_told}
-use Rattle.wgsl_source.proofs.Kept.{all_variables}
+use Rattle.std.proofs.Common.{◌≡◌, None, Some, ap, map, sym, subst, ◌∙◌, All}
+use Rattle.wgsl_source.proofs.Common.{AreAllTold, IsDeclared, AreAll, AreListed, IsDeclaration, KnownAll, names_of, Text}
+use Rattle.wgsl_source.proofs.Declarations.{all_declarations, all_told, type_named}
+use Rattle.wgsl_source.proofs.Kept.{has_declared}
 use Rattle.wgsl_source.proofs.Structs.{all_declared}
+use Rattle.wgsl_source.specs.TextStructs.{IsTypeNamed}
+use Rattle.wgsl_source.specs.WrittenTypes.{environment}
+use Rattle.wgsl_source.specs.internal.Read.{AreMeant}
 use Rattle.wgsl_source.proofs.module.read_module.Goals as goal
 
 pub returns-in-Ok-clause-declared : goal.returns-in-Ok-clause-declared
@@ -15,9 +13,26 @@ returns-in-Ok-clause-declared c =
     let t = c.args.text in
     let whole = c.args.grammar.now.events.items in
     let are = subst (AreAll t whole) (sym c.deref.ensures.value) c.in_ok-declarations.ensures in
-    let known = subst (λ (t : Text). All (IsDeclaration t whole) c.deref.result.now) (sym c.new.ensures) (all_declarations t whole c.deref.result.now are) in
-    subst (λ ss. All (IsDeclared t whole) ss.items) (sym c.finished.ensures.structs)
-    (subst (λ (t : Text). All (IsDeclared t whole) c.read.new.self.structs.items) c.new.ensures (all_declared (KnownAll c.deref.result.now) _ c.read.new.self c.new-2.ensures.items c.in-Ok.ensures.keeps whole known))
+    let new = c.read.new.self in
+    let keeps = c.in-Ok.ensures.keeps in
+    let text : keeps.named.scope.text ≡ t = keeps.same.2 ∙ c.new.ensures.text in
+    let env = environment new.scope new.types in
+    let all = all_declared (KnownAll c.deref.result.now) keeps.named new (ap (λ ss. ss.items) keeps.same.1 ∙ c.new-2.ensures.items) keeps.keeps whole
+    (subst (λ (t : Text). All (IsDeclaration t whole) c.deref.result.now) (sym text) (all_declarations t whole c.deref.result.now are)) in
+    let found = c.in-Ok.ensures in
+    let ds = c.deref.result.now in
+    let names = found.named (λ name index is. absurd (let no : None ≡ Some index = sym (c.new.ensures.none name) ∙ is in cc)) in
+    let meant = subst (λ (t : Text). AreMeant t new.structs.items ds new.scope.meanings.items) (keeps.keeps.text ∙ text) found.meant in
+    record {
+      named = env.named;
+      sites = are.sites;
+      stand = are.there;
+      types =
+          λ name ty is. subst (λ ss. IsTypeNamed t ss.items are.sites name ty) (sym c.finished.ensures.structs) (type_named t new.structs.items ds are.sites new.scope are.are meant names name ty is);
+      structs =
+          subst (λ es. All (IsDeclared t (record { named = env.named; elements = es.items }) whole) c.finished.result.structs.items) (sym c.finished.ensures.elements)
+          (subst (λ ss. All (IsDeclared t env whole) ss.items) (sym c.finished.ensures.structs) (subst (λ (t : Text). All (IsDeclared t env whole) new.structs.items) text all));
+    }
 
 pub returns-in-Ok-clause-told : goal.returns-in-Ok-clause-told
 returns-in-Ok-clause-told c =
@@ -27,21 +42,17 @@ returns-in-Ok-clause-told c =
     let ss = c.read.new.self.structs.items in
     let l = c.in-Ok.listed in
     let are = subst (AreAll t whole) (sym c.deref.ensures.value) c.in_ok-declarations.ensures in
-    let listed = subst (λ (t : Text). AreListed t ss ds l.in_text.items (names_of l)) (c.in-Ok.ensures.keeps.text ∙ c.new.ensures) c.in-Ok.ensures.listed in
+    let listed = subst (λ (t : Text). AreListed t ss ds l.in_text.items (names_of l)) (c.in-Ok.ensures.keeps.keeps.text ∙ (c.in-Ok.ensures.keeps.same.2 ∙ c.new.ensures.text)) c.in-Ok.ensures.listed in
     subst (λ v. AreAllTold t whole c.finished.result.structs.items c.finished.result.in_text.items (map (λ name. name.now) v.items)) (sym c.finished.ensures.left_out)
     (subst (λ v. AreAllTold t whole c.finished.result.structs.items v.items (names_of l)) (sym c.finished.ensures.in_text)
     (subst (λ v. AreAllTold t whole v.items l.in_text.items (names_of l)) (sym c.finished.ensures.structs) (all_told t ss whole ds l.in_text.items (names_of l) are listed)))
 
-pub returns-in-Ok-clause-variables : goal.returns-in-Ok-clause-variables
-returns-in-Ok-clause-variables c =
+pub returns-in-Ok-clause-others : goal.returns-in-Ok-clause-others
+returns-in-Ok-clause-others c =
     let t = c.args.text in
     let whole = c.args.grammar.now.events.items in
-    let ds = c.deref.result.now in
-    let faults = c.read.new.self.faults.items in
-    let variables = c.read.new.others.variables.items in
-    let are = subst (AreAll t whole) (sym c.deref.ensures.value) c.in_ok-declarations.ensures in
-    let added = subst (λ (t : Text). AddsKept (IsVariableOf t) (IsNoVariableOf (faults ≢ [])) ds c.none-others.result.variables.items variables)
-    (c.in-Ok.ensures.keeps.text ∙ c.new.ensures) c.in-Ok.ensures.others.variables in
-    subst (λ v. AreVariables t whole c.finished.result.faults.items v.items) (sym c.finished.ensures.variables)
-    (subst (λ v. AreVariables t whole v.items variables) (sym c.finished.ensures.faults)
-    (all_variables t faults whole ds variables are (subst (λ vs. AddsKept (IsVariableOf t) (IsNoVariableOf (faults ≢ [])) ds vs variables) c.none-others.ensures added)))
+    let none = c.none-others.ensures in
+    let all = c.finished.ensures in
+    has_declared t c.read.new.self.scope.text whole c.deref.result.now c.read.new.self.faults.items c.none-others.result c.read.new.others c.finished.result
+    (subst (AreAll t whole) (sym c.deref.ensures.value) c.in_ok-declarations.ensures) (c.in-Ok.ensures.keeps.keeps.text ∙ (c.in-Ok.ensures.keeps.same.2 ∙ c.new.ensures.text)) c.in-Ok.ensures.others none.variables none.overrides
+    none.entry_points none.aliases (ap (λ v. v.items) all.faults) all.variables all.overrides all.entry_points all.aliases

@@ -1,6 +1,5 @@
 use Rattle.std.proofs.Common.{List, length}
-use Rattle.wgsl_reader.specs.declared.read.Event.{Event}
-use Rattle.wgsl_source.specs.Declarations.{BehindAttributes}
+use Rattle.wgsl_source.proofs.Common.{Event, BehindAttributes}
 use Rattle.wgsl_source.proofs.parts.behind_attributes.Given as goal
 
 -- what stands behind the attributes that are left stands behind all

@@ -1,13 +1,9 @@
-use Rattle.std.proofs.Common.{Some, List, refl, subst, sym, take}
-use Rattle.std.proofs.lemmas.List.{take_all}
+use Rattle.std.proofs.Common.{Some, List, refl, subst, sym, take, take_all}
 use Rattle.wgsl_core.specs.declared.layout.placing.Placing.{Placing}
-use Rattle.wgsl_source.specs.declared.structure.Member.{Member}
-use Rattle.wgsl_source.specs.declared.structure.Written.{Written}
-use Rattle.wgsl_source.specs.Members.{AreSameMembers, members_of}
+use Rattle.wgsl_source.proofs.Common.{Member, Written, AreSameMembers, members_of, HasNoLayout}
 use Rattle.wgsl_source.proofs.Members.{one_more_same}
 use Rattle.wgsl_source.proofs.Placed.{ArePlaced, all_placed_out, none_placed, one_placed}
 use Rattle.wgsl_source.proofs.Refused.{no_offset, no_size, at_fault}
-use Rattle.wgsl_source.specs.Layout.{HasNoLayout}
 use Rattle.wgsl_source.proofs.structure.laid_out.Goals as goal
 
 pub loop-next-init : goal.loop-next-init

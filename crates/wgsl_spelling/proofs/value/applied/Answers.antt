@@ -1,5 +1,4 @@
-use Rattle.std.proofs.Common.{◌≡◌, Result, Ok, Err, None, ap, refl, sym, ◌∙◌}
-use Rattle.std.specs.Result.{IsErrAnd}
+use Rattle.std.proofs.Common.{◌≡◌, Result, Ok, Err, None, ap, refl, sym, ◌∙◌, IsErrAnd}
 use Rattle.wgsl_constants.proofs.Values.{value_is}
 use Rattle.wgsl_constants.specs.Literals.{found}
 use Rattle.wgsl_spelling.proofs.value.applied.Goals as goal

@@ -1,8 +1,5 @@
 use Rattle.std.proofs.Common.{sym, ap, ◌∙◌}
-use Rattle.wgsl_core.specs.View.{view}
-use Rattle.wgsl_forms.specs.Array.{typed_array}
-use Rattle.wgsl_forms.specs.Views.{answer_view, unbuilt_view}
-use Rattle.wgsl_typing.specs.Outcomes.{IsType}
+use Rattle.wgsl_typing.proofs.Common.{view, typed_array, answer_view, unbuilt_view, IsType}
 use Rattle.wgsl_typing.proofs.Operands.{answered_err, answered_ok, by_parts}
 use Rattle.wgsl_typing.proofs.ask.array_of.Goals as goal
 

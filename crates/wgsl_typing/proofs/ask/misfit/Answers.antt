@@ -1,7 +1,5 @@
 use Rattle.std.proofs.Common.{sym, ap, ◌∙◌, map}
-use Rattle.wgsl_core.specs.View.{view}
-use Rattle.wgsl_forms.specs.Lists.{function, list_fits}
-use Rattle.wgsl_forms.specs.Views.{answer_view}
+use Rattle.wgsl_typing.proofs.Common.{view, function, list_fits, answer_view}
 use Rattle.wgsl_typing.proofs.Operands.{by_parts, none_told, one_told}
 use Rattle.wgsl_typing.proofs.ask.misfit.Goals as goal
 

@@ -1,6 +1,5 @@
 use Rattle.std.proofs.Common.{◌≡◌, ◌++◌, drop, map}
-use Rattle.wgsl_forms.specs.Views.{given}
-use Rattle.wgsl_typing.specs.Outcomes.{shown, typed_parts}
+use Rattle.wgsl_typing.proofs.Common.{given, shown, typed_parts}
 use Rattle.wgsl_typing.proofs.ask.operands_of.Given as goal
 
 -- the operands so far, and those of the parts that are left

@@ -1,6 +1,5 @@
 use Rattle.std.proofs.Common.{option_map}
-use Rattle.wgsl_core.specs.View.{view}
-use Rattle.wgsl_standard.specs.Callees.{callee_view}
+use Rattle.wgsl_typing.proofs.Common.{view, callee_view}
 use Rattle.wgsl_typing.proofs.Operands.{resolved_by_parts}
 use Rattle.wgsl_typing.proofs.ask.resolved.Goals as goal
 

@@ -1,7 +1,5 @@
 use Rattle.std.proofs.Common.{sym, ap, ◌∙◌}
-use Rattle.wgsl_core.specs.View.{view}
-use Rattle.wgsl_forms.specs.Lists.{constructed}
-use Rattle.wgsl_forms.specs.Views.{answer_view}
+use Rattle.wgsl_typing.proofs.Common.{view, constructed, answer_view}
 use Rattle.wgsl_typing.proofs.Operands.{by_parts, none_told, one_told}
 use Rattle.wgsl_typing.proofs.ask.unfit.Goals as goal
 

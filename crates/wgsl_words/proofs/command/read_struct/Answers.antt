@@ -1,8 +1,6 @@
-use Rattle.std.proofs.Common.{◌≡◌, ◌∙◌, ℕ, List, None, ap, option_and_then, refl}
-use Rattle.wgsl_rules.specs.types.Types.{Members, WgslType, struct}
+use Rattle.wgsl_words.proofs.Common.{◌≡◌, ◌∙◌, ℕ, List, None, ap, option_and_then, refl, Members, WgslType, struct, view}
 use Rattle.wgsl_core.proofs.Views.{not_struct}
-use Rattle.wgsl_core.specs.View.{view}
-use Rattle.wgsl_words.specs.Calls.{a_struct}
+use Rattle.wgsl_words.specs.Requests.{a_struct}
 use Rattle.wgsl_words.proofs.command.read_struct.Goals as goal
 
 no_struct : (t : WgslType) → ((name : List ℕ) (ms : Members) → t ≡ struct name ms → ⊥) → a_struct t ≡ None

@@ -1,6 +1,5 @@
-use Rattle.std.proofs.Common.{false, ◌∙◌, codes, sym}
-use Rattle.std.proofs.lemmas.Str.Pattern.{ends_text}
-use Rattle.wgsl_words.proofs.Suffixes.{no_before, no_long_suffix}
+use Rattle.wgsl_words.proofs.Common.{false, ◌∙◌, codes, sym, ends_text}
+use Rattle.wgsl_words.proofs.Numbers.{no_before, no_long_suffix}
 use Rattle.wgsl_words.proofs.literal.number.Goals as goal
 
 pub returns-in_default-strip_suffix : goal.returns-in_default-strip_suffix

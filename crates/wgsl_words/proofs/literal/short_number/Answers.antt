@@ -1,7 +1,5 @@
-use Rattle.std.proofs.Common.{false, arith, codes, rules}
-use Rattle.std.proofs.lemmas.Grind.{common_steps}
-use Rattle.std.proofs.lemmas.Str.Pattern.{ends_text}
-use Rattle.wgsl_words.proofs.Suffixes.{no_before, no_short_suffix}
+use Rattle.wgsl_words.proofs.Common.{false, arith, codes, rules, common_steps, ends_text}
+use Rattle.wgsl_words.proofs.Numbers.{no_before, no_short_suffix}
 use Rattle.wgsl_words.proofs.literal.short_number.Goals as goal
 
 pub returns-in_err-signed : goal.returns-in_err-signed

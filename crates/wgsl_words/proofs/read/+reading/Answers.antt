@@ -1,13 +1,6 @@
-use Rattle.std.proofs.Common.{◌≡◌, ◌+◌, ◌-◌, ◌<◌, Some, [], ◌∷◌, ◌++◌, map, refl, sym, ap, length-set, ◌∙◌, arith, rules}
-use Rattle.std.proofs.lemmas.List.{map-append}
-use Rattle.wgsl_rules.specs.types.Around.{around}
-use Rattle.wgsl_rules.specs.types.Types.{scalar}
-use Rattle.wgsl_core.specs.View.{member_view, view}
+use Rattle.wgsl_words.proofs.Common.{◌≡◌, ◌+◌, ◌-◌, ◌<◌, Some, [], ◌∷◌, ◌++◌, map, refl, sym, ap, length-set, ◌∙◌, arith, rules, map-append, around, scalar}
+use Rattle.wgsl_words.proofs.Common.{member_view, view, scalar_named, long, a_word, one, optional, layer_named, member_at, type_at, type_from}
 use Rattle.wgsl_core.specs.declared.ty.Type.{the_lemmas}
-use Rattle.wgsl_words.specs.Names.{scalar_named}
-use Rattle.wgsl_words.specs.Numbers.{long}
-use Rattle.wgsl_words.specs.Reader.{a_word, one, optional}
-use Rattle.wgsl_words.specs.Types.{layer_named, member_at, type_at, type_from}
 use Rattle.wgsl_words.proofs.Reading.{in_layers, missed, next_layer, no_count, no_layer, no_members, not_opened, nothing_in_layer, nothing_inside, opened, opened_layer, reads_as, scalar_in_layer, struct_found, take_set, times_end, times_next, times_none, times_start}
 use Rattle.wgsl_words.proofs.read.+reading.Goals as goal
 

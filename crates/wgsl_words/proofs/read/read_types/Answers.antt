@@ -1,7 +1,4 @@
-use Rattle.std.proofs.Common.{◌≡◌, ◌∷◌, ◌++◌, [], map, subst, sym, ap, ◌∙◌, rules}
-use Rattle.std.proofs.lemmas.List.{map-append}
-use Rattle.wgsl_core.specs.View.{view}
-use Rattle.wgsl_words.specs.Types.{type_at, type_from}
+use Rattle.wgsl_words.proofs.Common.{◌≡◌, ◌∷◌, ◌++◌, [], map, subst, sym, ap, ◌∙◌, rules, map-append, view, type_at, type_from}
 use Rattle.wgsl_words.proofs.Reading.{Half, all_start, half_end, half_next, half_none, none_given}
 use Rattle.wgsl_words.proofs.read.read_types.Goals as goal
 

@@ -1,10 +1,6 @@
-use Rattle.std.proofs.Common.{◌≡◌, ◌∷◌, ◌++◌, [], map, subst, sym, ap, ◌∙◌, rules}
-use Rattle.std.proofs.lemmas.List.{map-append}
-use Rattle.std.proofs.lemmas.Slice.Eq.{bytes_eq-Decides}
-use Rattle.wgsl_core.specs.Instances.{parameter_view}
+use Rattle.wgsl_words.proofs.Common.{◌≡◌, ◌∷◌, ◌++◌, [], map, subst, sym, ap, ◌∙◌, rules, map-append, bytes_eq-Decides, parameter_view}
 use Rattle.wgsl_words.specs.Templates.{parameter_from}
-use Rattle.wgsl_words.proofs.Parameters.{Part, part_end, part_missing, part_next, part_none, part_start}
-use Rattle.wgsl_words.proofs.Reading.{missed}
+use Rattle.wgsl_words.proofs.Reading.{Part, part_end, part_missing, part_next, part_none, part_start, missed}
 use Rattle.wgsl_words.proofs.template.read_parameters.Goals as goal
 
 pub loop-word-init : goal.loop-word-init

@@ -1,9 +1,6 @@
 use Rattle.std.proofs.Common.{◌∙◌, ◌++◌, sym, ap, codes, decimal}
-use Rattle.std.proofs.Output.{has_written_of_eq}
-use Rattle.wgsl_rules.specs.types.Spelling.{wgsl_spelling}
+use Rattle.wgsl_forms.proofs.Common.{has_written_of_eq, wgsl_spelling, refusal_text, refusal_view, unbuilt_view}
 use Rattle.wgsl_core.proofs.Listed.{two_placed, three_placed}
-use Rattle.wgsl_forms.specs.Refusals.{refusal_text}
-use Rattle.wgsl_forms.specs.Views.{refusal_view, unbuilt_view}
 use Rattle.wgsl_forms.proofs.refusal.RefusalDisplay.fmt.Goals as goal
 
 pub returns-in-Component-clause-writes : goal.returns-in-Component-clause-writes

@@ -1,6 +1,5 @@
-use Rattle.std.proofs.Common.{◌≡◌, ◌∙◌, ◌+◌, ◌++◌, ℕ, List, IsOk, Result, Ok, Err, is_ok, if◌then◌else◌, refl, ap, arith, length, min, sym, take}
-use Rattle.std.proofs.Math.Seq.{take-append-add}
-use Rattle.std.proofs.lemmas.List.{length-take, take_min}
+use Rattle.wgsl_lines.proofs.Common.{◌≡◌, ◌∙◌, ◌+◌, ◌++◌, ℕ, List, IsOk, Result, Ok, Err, is_ok, if◌then◌else◌, refl, ap, arith, length, min, sym, take}
+use Rattle.wgsl_lines.proofs.Common.{take-append-add, length-take, take_min}
 use Rattle.wgsl_lines.proofs.line.Line.extend.Goals as goal
 
 -- what there is room for, behind what is there

@@ -1,6 +1,4 @@
-use Rattle.std.proofs.Common.{[], rules, subst, sym, take}
-use Rattle.std.proofs.lemmas.Result.{err_from_is_err_and}
-use Rattle.std.specs.Io.KnownBytes.{Consumes}
+use Rattle.wgsl_lines.proofs.Common.{[], rules, subst, sym, take, err_from_is_err_and, Consumes}
 use Rattle.wgsl_lines.proofs.Steps.{HasReached, keeps_all, passed_on, reached_again, reached_end, reached_fail, reached_more, reached_none, reached_stop}
 use Rattle.wgsl_lines.proofs.run.Session.answer_all.Goals.{in-Ok+in_ok-answer_block-in-Ok, in-Err}
 use Rattle.wgsl_lines.proofs.run.Session.answer_all.Goals as goal

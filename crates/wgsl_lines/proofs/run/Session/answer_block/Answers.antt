@@ -1,6 +1,4 @@
-use Rattle.std.proofs.Common.{◌∙◌, string_bytes, subst, sym}
-use Rattle.std.proofs.lemmas.Result.{err_from_is_err_and}
-use Rattle.wgsl_lines.specs.Session.{HasStopped}
+use Rattle.wgsl_lines.proofs.Common.{◌∙◌, string_bytes, subst, sym, err_from_is_err_and, HasStopped}
 use Rattle.wgsl_lines.proofs.Steps.{IsCutOff, block_cut, block_done, block_stops}
 use Rattle.wgsl_lines.proofs.run.Session.answer_block.Goals as goal
 

@@ -1,5 +1,4 @@
-use Rattle.std.proofs.Common.{List, ℕ, length}
-use Rattle.wgsl_lines.specs.Session.{HasTaken}
+use Rattle.wgsl_lines.proofs.Common.{List, ℕ, length, HasTaken}
 use Rattle.wgsl_lines.proofs.Taken.{TakesPart}
 use Rattle.wgsl_lines.proofs.run.Session.take.Given as goal
 

@@ -1,7 +1,5 @@
-use Rattle.std.proofs.Common.{[], string_bytes, sym}
-use Rattle.std.proofs.lemmas.List.{append-nil}
-use Rattle.std.proofs.lemmas.Result.{err_from_is_err_and}
-use Rattle.wgsl_lines.proofs.Bytes.{appends_kept}
+use Rattle.wgsl_lines.proofs.Common.{[], string_bytes, sym, append-nil, err_from_is_err_and}
+use Rattle.wgsl_lines.proofs.Steps.{appends_kept}
 use Rattle.wgsl_lines.proofs.run.Session.write_answers.Goals as goal
 
 pub returns-in_err-map_err-clause-cut : goal.returns-in_err-map_err-clause-cut

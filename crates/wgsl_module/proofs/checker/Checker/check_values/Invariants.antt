@@ -1,6 +1,6 @@
-use Rattle.std.proofs.Common.{◌≡◌}
+use Rattle.wgsl_module.specs.Noted.{Keeps, state}
 use Rattle.wgsl_module.proofs.checker.Checker.check_values.Given as goal
 
--- where control goes on stays as it was
+-- what is read stays as it is
 abbrev pub invariant-loop-value : goal.invariant-loop-value
-invariant-loop-value l = (l.self.flow ≡ l.fn.self.flow) × (l.self.around ≡ l.fn.self.around)
+invariant-loop-value l = Keeps (state l.fn.self) (state l.self)

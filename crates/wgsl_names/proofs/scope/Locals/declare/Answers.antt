@@ -1,20 +1,27 @@
-use Rattle.std.proofs.Common.{◌≡◌, length, arith}
+use Rattle.std.proofs.Common.{◌≡◌, [], ◌∷◌, ◌++◌, ◌∙◌, ap, length, vec_len, arith}
+use Rattle.std.proofs.Math.Logic.{∥∥₁_map}
 use Rattle.std.proofs.lemmas.List.{length-reverse}
+use Rattle.wgsl_names.specs.declared.scope.Local.{Local}
 use Rattle.wgsl_names.specs.Scopes.{locals_of, starts_of}
-use Rattle.wgsl_names.proofs.Scopes.{reverse_push, cut_declared, index_declared, nested_more}
+use Rattle.wgsl_names.proofs.Indices.{reverse_push, indexed_declared, indexed_unchanged}
+use Rattle.wgsl_names.proofs.Scopes.{cut_declared, are_nested}
 use Rattle.wgsl_names.proofs.scope.Locals.declare.Goals as goal
 
-pub returns-clause-indexed : goal.returns-clause-indexed
-returns-clause-indexed c = λ is. record {
-  index =
-      let here : c.len.result ≡ length (locals_of c.args.self.now) = omega (arith, c.len.ensures, length-reverse c.args.self.now.locals.items) in
-      rw (c.in_ok-push.ensures.items, reverse_push)
-      (index_declared c.len.result c.args.self.now.innermost c.insert.new.self (locals_of c.args.self.now) _ here c.in_ok-shadowed.ensures.old c.in_ok-shadowed.ensures.updates is.index);
-  nested = rw (c.in_ok-push.ensures.items, reverse_push) (nested_more (length (locals_of c.args.self.now)) _ (starts_of c.args.self.now) (omega arith) is.nested);
+pub invariant_of-self-in-Break-branch-2 : goal.invariant_of-self-in-Break-branch-2
+invariant_of-self-in-Break-branch-2 c = record {
+  indexed = rw c.in_ok-reserve.ensures.items (∥∥₁_map c.args.self.now.indexed (indexed_unchanged c.args.self.now.innermost c.insert.new.self _ _ c.in_err-shadowed.ensures.err));
 }
 
+pub invariant_of-self-2 : goal.invariant_of-self-2
+invariant_of-self-2 c =
+    let local : Local = record { name = c.args.name; bound = record { named = c.args.named; typed = c.args.typed }; shadowed = c.in_ok-shadowed.shadowed } in record {
+      indexed = ∥∥₁_map c.args.self.now.indexed (λ is. indexed_declared c.len.result c.args.self.now.innermost c.insert.new.self
+          c.args.self.now.locals.items c.push_reserved.new.self.items local (starts_of c.args.self.now) (omega (arith, c.len.ensures, ap length c.in_ok-reserve.ensures.items))
+          (c.push_reserved.ensures.items ∙ ap (λ xs. xs ++ local ∷ []) c.in_ok-reserve.ensures.items) c.in_ok-shadowed.ensures.old c.in_ok-shadowed.ensures.updates is);
+    }
+
 pub returns-clause-named : goal.returns-clause-named
-returns-clause-named c = λ is.
-    let here : c.len.result ≡ length (locals_of c.args.self.now) = omega (arith, c.len.ensures, length-reverse c.args.self.now.locals.items) in
-    rw (c.in_ok-push.ensures.items, reverse_push, ← c.len.ensures, here)
-    (cut_declared (starts_of c.args.self.now) c.args.name.now (locals_of c.args.self.now) is.nested)
+returns-clause-named c =
+    let many : vec_len c.args.self.now.locals ≡ length (locals_of c.args.self.now) = omega (arith, length-reverse c.args.self.now.locals.items) in
+    rw (c.push_reserved.ensures.items, c.in_ok-reserve.ensures.items, reverse_push, many)
+    (cut_declared (starts_of c.args.self.now) c.args.name.now (locals_of c.args.self.now) (are_nested c.args.self.now))

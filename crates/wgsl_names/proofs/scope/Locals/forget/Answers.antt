@@ -1,14 +1,19 @@
-use Rattle.std.proofs.Common.{None, reverse}
-use Rattle.wgsl_names.proofs.Scopes.{reverse_push, index_forgotten}
+use Rattle.std.proofs.Common.{◌≡◌, sym, ap, arith}
+use Rattle.std.proofs.Math.Logic.{∥∥₁_map}
+use Rattle.std.proofs.lemmas.Grind.{common_steps}
+use Rattle.wgsl_names.specs.Scopes.{starts_of}
+use Rattle.wgsl_names.proofs.Indices.{indexed_forgotten, indexed_unchanged, last_is}
 use Rattle.wgsl_names.proofs.scope.Locals.forget.Goals as goal
 
-pub returns-in_ok-insert-in-Some-shadowed-clause-indexed :
-    goal.returns-in_ok-insert-in-Some-shadowed-clause-indexed
-returns-in_ok-insert-in-Some-shadowed-clause-indexed c = λ is.
-    index_forgotten _ c.args.self.now.innermost c.insert.new.self (reverse c.pop.new.self.items) c.in-Some.local c.in-Some-shadowed.is
-    c.in_ok-insert-in-Some-shadowed.ensures.updates (rw (c.in-Some.ensures.items, reverse_push) at is)
+pub invariant_of-self-in-Break-branch-2 : goal.invariant_of-self-in-Break-branch-2
+invariant_of-self-in-Break-branch-2 c = record {
+  indexed = ∥∥₁_map c.args.self.now.indexed (indexed_unchanged c.args.self.now.innermost c.give.new.index _ _ c.in_err-give.ensures.unchanged);
+}
 
-pub returns-in-None-clause-indexed : goal.returns-in-None-clause-indexed
-returns-in-None-clause-indexed c = λ is.
-    index_forgotten None c.args.self.now.innermost c.remove.new.self (reverse c.pop.new.self.items) c.in-Some.local c.in-None.is
-    c.remove.ensures.updates (rw (c.in-Some.ensures.items, reverse_push) at is)
+pub invariant_of-self-in-Some-pop : goal.invariant_of-self-in-Some-pop
+invariant_of-self-in-Some-pop c =
+    let same : c.in-Some.local.now ≡ c.in-Some-pop.local = grind (arith, common_steps, last_is c.pop.new.self.items c.in-Some-pop.local) in record {
+      indexed = ∥∥₁_map c.args.self.now.indexed (λ is. indexed_forgotten c.in-Some.local.now.shadowed c.args.self.now.innermost c.give.new.index
+          c.args.self.now.locals.items c.pop.new.self.items c.in-Some-pop.local (starts_of c.args.self.now) c.in-Some-pop.ensures.items (omega (arith, c.requires))
+          (ap (λ l. l.shadowed) (sym same)) (rw (← same) c.in_ok-give.ensures.given) is);
+    }

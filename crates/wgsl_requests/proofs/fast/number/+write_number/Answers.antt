@@ -1,7 +1,5 @@
-use Rattle.std.proofs.Common.{◌≡◌, ◌∙◌, ◌+◌, ◌%◌, ◌∷◌, ◌++◌, [], ap, arith, decimal, string_bytes}
-use Rattle.wgsl_requests.proofs.Digits.{last_digit, one_digit}
-use Rattle.std.proofs.lemmas.Result.{on_ok_weaker}
-use Rattle.wgsl_requests.proofs.Written.{pushed}
+use Rattle.wgsl_requests.proofs.Shared.{◌≡◌, ◌∙◌, ◌+◌, ◌%◌, ◌∷◌, ◌++◌, [], ap, arith, decimal, string_bytes, on_ok_weaker}
+use Rattle.wgsl_requests.proofs.Digits.{last_digit, one_digit, pushed}
 use Rattle.wgsl_requests.proofs.fast.number.+write_number.Goals.{then-number-ge10+in_ok-write_number, else-number-ge10}
 use Rattle.wgsl_requests.proofs.fast.number.+write_number.Goals as goal
 

@@ -1,7 +1,5 @@
-use Rattle.std.proofs.Common.{◌≡◌, ◌++◌, OnOk, string_bytes, codes, decimal, ap, subst, ◌∙◌}
-use Rattle.std.specs.Fmt.{styled_decimal, styled_text}
-use Rattle.wgsl_requests.proofs.Columns.{number_in_column, dash_in_column}
-use Rattle.wgsl_requests.proofs.Reports.{in_columns}
+use Rattle.wgsl_requests.proofs.Shared.{◌≡◌, ◌++◌, OnOk, string_bytes, codes, decimal, ap, subst, ◌∙◌, styled_decimal, styled_text}
+use Rattle.wgsl_requests.proofs.Reports.{number_in_column, dash_in_column, in_columns}
 use Rattle.wgsl_requests.proofs.write.layout.write_last.Goals as goal
 
 pub returns : goal.returns

@@ -1,10 +1,6 @@
-use Rattle.std.proofs.Common.{◌++◌, string_bytes, ap, sym, ◌∙◌}
-use Rattle.wgsl_core.specs.View.{struct_view}
+use Rattle.wgsl_requests.proofs.Shared.{◌++◌, string_bytes, ap, sym, ◌∙◌, struct_view, struct_line, placed_lines, on_ok_weaker}
 use Rattle.wgsl_core.proofs.Layouts.{members_at}
-use Rattle.wgsl_requests.specs.Layouts.{struct_line}
-use Rattle.wgsl_requests.specs.internal.Written.{placed_lines}
 use Rattle.wgsl_requests.proofs.Reports.{reported, struct_name_seen}
-use Rattle.std.proofs.lemmas.Result.{on_ok_weaker}
 use Rattle.wgsl_requests.proofs.write.layout.write_lines.Goals as goal
 
 pub returns : goal.returns

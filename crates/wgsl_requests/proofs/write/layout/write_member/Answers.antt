@@ -1,7 +1,5 @@
-use Rattle.std.proofs.Common.{◌≡◌, ◌++◌, OnOk, string_bytes, decimal, ap, subst, ◌∙◌}
-use Rattle.std.specs.Fmt.{styled_decimal}
-use Rattle.wgsl_requests.proofs.Columns.{number_in_column}
-use Rattle.wgsl_requests.proofs.Reports.{member_laid}
+use Rattle.wgsl_requests.proofs.Shared.{◌≡◌, ◌++◌, OnOk, string_bytes, decimal, ap, subst, ◌∙◌, styled_decimal}
+use Rattle.wgsl_requests.proofs.Reports.{number_in_column, member_laid}
 use Rattle.wgsl_requests.proofs.write.layout.write_member.Goals as goal
 
 pub returns : goal.returns

@@ -1,5 +1,4 @@
-use Rattle.std.proofs.Common.{◌++◌, string_bytes, sym, ap, ◌∙◌}
-use Rattle.std.proofs.lemmas.List.{append-nil}
+use Rattle.wgsl_requests.proofs.Shared.{◌++◌, string_bytes, sym, ap, ◌∙◌, append-nil}
 use Rattle.std.proofs.lemmas.Slice.Zip.{either_empty_from_Zip}
 use Rattle.wgsl_requests.proofs.Reports.{no_lines}
 use Rattle.wgsl_requests.proofs.write.layout.write_members.Goals as goal

@@ -1,7 +1,6 @@
-use Rattle.std.proofs.Common.{◌≡◌, ◌++◌, string_bytes}
+use Rattle.wgsl_requests.proofs.Shared.{◌≡◌, ◌++◌, string_bytes, placed_lines}
 use Rattle.std.specs.Iterator.Adapters.{zip_first, zip_second}
 use Rattle.std.specs.Slice.Iter.{iter_rest}
-use Rattle.wgsl_requests.specs.internal.Written.{placed_lines}
 use Rattle.wgsl_requests.proofs.write.layout.write_members.Given as goal
 
 -- what is written, and the lines of the members that are left

@@ -1,6 +1,4 @@
-use Rattle.std.proofs.Common.{◌≡◌, ◌++◌, codes, flat_map, string_bytes, take}
-use Rattle.wgsl_rules.specs.types.Spelling.{wgsl_spelling}
-use Rattle.wgsl_core.specs.View.{view}
+use Rattle.wgsl_requests.proofs.Shared.{◌≡◌, ◌++◌, codes, flat_map, string_bytes, take, wgsl_spelling, view}
 use Rattle.wgsl_requests.proofs.write.lists.write_types.Given as goal
 
 abbrev pub invariant-loop-ty : goal.invariant-loop-ty

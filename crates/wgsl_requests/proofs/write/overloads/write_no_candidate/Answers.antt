@@ -1,7 +1,6 @@
-use Rattle.std.proofs.Common.{codes, string_bytes}
+use Rattle.wgsl_requests.proofs.Shared.{codes, string_bytes, on_ok_weaker}
 use Rattle.wgsl_requests.proofs.Listings.{refusal_written}
-use Rattle.std.proofs.lemmas.Result.{on_ok_weaker}
-use Rattle.wgsl_requests.proofs.Written.{pushed}
+use Rattle.wgsl_requests.proofs.Digits.{pushed}
 use Rattle.wgsl_requests.proofs.write.overloads.write_no_candidate.Goals as goal
 
 pub returns : goal.returns

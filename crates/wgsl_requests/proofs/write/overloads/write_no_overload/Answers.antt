@@ -1,8 +1,5 @@
-use Rattle.std.proofs.Common.{◌∙◌, ◌++◌, ap, string_bytes}
-use Rattle.std.specs.Prelude.{option_map}
-use Rattle.wgsl_requests.specs.StandardViews.{call_view}
+use Rattle.wgsl_requests.proofs.Shared.{◌∙◌, ◌++◌, ap, string_bytes, option_map, call_view, on_ok_weaker}
 use Rattle.wgsl_requests.proofs.Listings.{refused_unknown}
-use Rattle.std.proofs.lemmas.Result.{on_ok_weaker}
 use Rattle.wgsl_requests.proofs.write.overloads.write_no_overload.Goals as goal
 
 pub returns-in-Some : goal.returns-in-Some

@@ -1,7 +1,4 @@
-use Rattle.std.proofs.Common.{◌≡◌, ◌++◌, codes, flat_map, string_bytes, take}
-use Rattle.wgsl_rules.specs.types.Spelling.{wgsl_spelling}
-use Rattle.wgsl_rules.specs.standard.Choice.{value_of}
-use Rattle.wgsl_standard.specs.Operands.{given_type}
+use Rattle.wgsl_requests.proofs.Shared.{◌≡◌, ◌++◌, codes, flat_map, string_bytes, take, wgsl_spelling, value_of, given_type}
 use Rattle.wgsl_requests.proofs.write.overloads.write_operand_types.Given as goal
 
 abbrev pub invariant-loop-operand : goal.invariant-loop-operand

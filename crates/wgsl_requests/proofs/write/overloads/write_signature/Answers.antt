@@ -1,6 +1,5 @@
 use Rattle.wgsl_requests.proofs.Listings.{resolution_written}
-use Rattle.std.proofs.Common.{◌∙◌}
-use Rattle.std.proofs.lemmas.Result.{on_ok_weaker}
+use Rattle.wgsl_requests.proofs.Shared.{◌∙◌, on_ok_weaker}
 use Rattle.wgsl_requests.proofs.write.overloads.write_signature.Goals as goal
 
 pub returns : goal.returns

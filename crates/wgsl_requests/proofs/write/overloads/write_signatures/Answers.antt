@@ -1,5 +1,4 @@
-use Rattle.std.proofs.Common.{rules}
-use Rattle.wgsl_standard.specs.Texts.{line_of}
+use Rattle.wgsl_requests.proofs.Shared.{rules, line_of}
 use Rattle.wgsl_requests.proofs.Listings.{lines_seen}
 use Rattle.wgsl_requests.proofs.write.overloads.write_signatures.Goals as goal
 

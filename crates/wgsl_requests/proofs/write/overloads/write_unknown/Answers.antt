@@ -1,6 +1,5 @@
-use Rattle.std.proofs.Common.{◌∙◌}
+use Rattle.wgsl_requests.proofs.Shared.{◌∙◌, on_ok_weaker}
 use Rattle.wgsl_requests.proofs.Listings.{unknown_written}
-use Rattle.std.proofs.lemmas.Result.{on_ok_weaker}
 use Rattle.wgsl_requests.proofs.write.overloads.write_unknown.Goals as goal
 
 pub returns : goal.returns

@@ -1,5 +1,4 @@
-use Rattle.std.proofs.Common.{[], sym, subst}
-use Rattle.std.proofs.lemmas.List.{append-nil}
+use Rattle.std.proofs.Common.{[], sym, subst, append-nil}
 use Rattle.wgsl_source.specs.internal.Read.{Adds, no_other}
 use Rattle.wgsl_source.specs.declared.declaration.Declarations.{Declarations}
 use Rattle.wgsl_source.proofs.Sites.{more_misread}

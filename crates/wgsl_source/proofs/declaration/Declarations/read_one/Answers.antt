@@ -1,6 +1,5 @@
 use Rattle.std.proofs.Common.{ap, refl, ◌∙◌}
-use Rattle.wgsl_spelling.specs.Words.{word}
-use Rattle.wgsl_source.specs.internal.Read.{declaration, no_other}
+use Rattle.wgsl_source.proofs.Common.{word, declaration, no_other}
 use Rattle.wgsl_source.proofs.Sites.{is_of, nothing_read}
 use Rattle.wgsl_source.proofs.declaration.Declarations.read_one.Goals as goal
 

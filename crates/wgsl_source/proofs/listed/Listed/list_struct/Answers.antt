@@ -1,6 +1,5 @@
-use Rattle.std.proofs.Common.{[], ◌∷◌, ap, map, sym, ◌∙◌}
-use Rattle.std.proofs.lemmas.List.{append-nil, map-append}
-use Rattle.wgsl_source.specs.internal.Read.{kept_listed, left_listed, names_of, none_listed}
+use Rattle.std.proofs.Common.{[], ◌∷◌, ap, map, sym, ◌∙◌, append-nil}
+use Rattle.wgsl_source.proofs.Common.{map-append, kept_listed, left_listed, names_of, none_listed}
 use Rattle.wgsl_source.proofs.listed.Listed.list_struct.Goals as goal
 
 pub returns-in_ok-push-in-Some : goal.returns-in_ok-push-in-Some

@@ -1,11 +1,8 @@
 use Rattle.std.proofs.Common.{length, refl, subst, sym}
-use Rattle.std.proofs.lemmas.Option.{slice_get_read}
-use Rattle.wgsl_source.specs.declared.module.Reader.{Reader}
-use Rattle.wgsl_source.specs.Structs.{Keeps}
-use Rattle.wgsl_source.specs.internal.Read.{IsDeclaration, KnownAll, Means}
+use Rattle.wgsl_source.proofs.Common.{slice_get_read, Reader, Keeps, IsDeclaration, KnownAll, Means}
 use Rattle.wgsl_source.proofs.Declarations.{all_at}
 use Rattle.wgsl_source.proofs.Meanings.{means_further}
-use Rattle.wgsl_source.proofs.Structs.{keeps_further, keeps_if, keeps_same}
+use Rattle.wgsl_source.proofs.Structs.{keeps_further, keeps_if, keeps_named}
 use Rattle.wgsl_source.proofs.module.Reader.read_in_order.Goals as goal
 use Rattle.wgsl_source.proofs.module.Reader.read_in_order.Goals.{in-Some+in_ok-read_unread, in_default}
 
@@ -15,7 +12,7 @@ loop-circular-preserved c =
     let old = c.args.self.now in
     let ds = c.args.declarations.now in
     let new = c.refuse.new.self in
-    (keeps_further (KnownAll ds) old l.self new l.invariant.0 (keeps_same (KnownAll ds) l.self new c.refuse.ensures.same), means_further ds old l.self new l.invariant.1 (c.refuse.ensures.means ds))
+    (keeps_further (KnownAll ds) old l.self new l.invariant.0 (keeps_named (KnownAll ds) l.self new c.refuse.ensures.same c.refuse.ensures.names), means_further ds old l.self new l.invariant.1 (c.refuse.ensures.means ds))
 
 pub loop-index-preserved : goal.loop-index-preserved
 loop-index-preserved c =

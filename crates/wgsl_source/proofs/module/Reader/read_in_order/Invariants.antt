@@ -1,5 +1,4 @@
-use Rattle.wgsl_source.specs.Structs.{Keeps}
-use Rattle.wgsl_source.specs.internal.Read.{KnownAll, Means}
+use Rattle.wgsl_source.proofs.Common.{Keeps, KnownAll, Means}
 use Rattle.wgsl_source.proofs.module.Reader.read_in_order.Given as goal
 
 abbrev pub invariant-loop-circular : goal.invariant-loop-circular

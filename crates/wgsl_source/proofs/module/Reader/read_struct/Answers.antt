@@ -1,6 +1,5 @@
 use Rattle.std.proofs.Common.{ℕ, arith, refl, subst}
-use Rattle.wgsl_source.specs.Members.{IsTypeOf}
-use Rattle.wgsl_source.specs.internal.Read.{KnownAt}
+use Rattle.wgsl_source.proofs.Common.{IsTypeOf, KnownAt}
 use Rattle.wgsl_source.proofs.Structs.{keeps_grown, keeps_one}
 use Rattle.wgsl_source.proofs.module.Reader.read_struct.Goals as goal
 
@@ -21,7 +20,7 @@ pub returns-clause-keeps : goal.returns-clause-keeps
 returns-clause-keeps c =
     let s = c.in_ok-structure.ensures in
     keeps_one c.args.declaration.now c.args.self.now _ c.in_ok-structure.structure s.grows c.in_ok-push.ensures.items
-    (record { layout = s.layout; measured = s.measured; runtime_sized = s.runtime_sized }) refl s.declared
+    (record { layout = s.layout; measured = s.measured; runtime_sized = s.runtime_sized }) refl s.declared s.types
 
 pub returns-in_err-structure-clause-keeps : goal.returns-in_err-structure-clause-keeps
 returns-in_err-structure-clause-keeps c = keeps_grown (KnownAt c.args.declaration.now) c.args.self.now _ c.in_err-structure.ensures.grows refl refl

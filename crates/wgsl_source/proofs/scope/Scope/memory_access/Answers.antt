@@ -1,6 +1,5 @@
 use Rattle.std.proofs.Common.{arith, subst, sym}
-use Rattle.std.proofs.lemmas.List.{nil_from_length}
-use Rattle.wgsl_source.specs.internal.Items.{HasAccess}
+use Rattle.wgsl_source.proofs.Common.{nil_from_length, HasAccess}
 use Rattle.wgsl_source.proofs.scope.Scope.memory_access.Goals as goal
 
 pub returns-in-empty-clause-said : goal.returns-in-empty-clause-said

@@ -1,7 +1,5 @@
 use Rattle.std.proofs.Common.{◌≡◌, ◌⊎◌, ◌∷◌, IfOk, arith, inr, subst, sym, true}
-use Rattle.std.proofs.lemmas.List.{nil_from_length}
-use Rattle.wgsl_syntax.specs.Address.{default_access, may_say}
-use Rattle.wgsl_source.specs.internal.Items.{HasAccess, NamesAccess}
+use Rattle.wgsl_source.proofs.Common.{nil_from_length, default_access, may_say, HasAccess, NamesAccess}
 use Rattle.wgsl_source.proofs.Items.{both_ok, ok_weaker}
 use Rattle.wgsl_source.proofs.scope.Scope.only_access.Goals as goal
 

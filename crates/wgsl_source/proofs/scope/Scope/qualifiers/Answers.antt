@@ -1,7 +1,5 @@
 use Rattle.std.proofs.Common.{[], ap, arith}
-use Rattle.std.proofs.lemmas.List.{nil_from_length}
-use Rattle.wgsl_source.specs.Qualifiers.{nothing}
-use Rattle.wgsl_source.specs.internal.Items.{item_names}
+use Rattle.wgsl_source.proofs.Common.{nil_from_length, nothing, item_names}
 use Rattle.wgsl_source.proofs.scope.Scope.qualifiers.Goals as goal
 
 pub returns-in-empty-clause-said : goal.returns-in-empty-clause-said

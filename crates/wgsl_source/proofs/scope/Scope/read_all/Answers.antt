@@ -1,6 +1,5 @@
 use Rattle.std.proofs.Common.{refl, sym, ◌∙◌}
-use Rattle.std.proofs.lemmas.List.{at_drop_all}
-use Rattle.wgsl_source.specs.internal.Items.{behind_events, item_names}
+use Rattle.wgsl_source.proofs.Common.{at_drop_all, behind_events, item_names}
 use Rattle.wgsl_source.proofs.Items.{one_further}
 use Rattle.wgsl_source.proofs.Members.{grows_further}
 use Rattle.wgsl_source.proofs.scope.Scope.read_all.Goals as goal

@@ -1,6 +1,5 @@
 use Rattle.std.proofs.Common.{◌≡◌, drop}
-use Rattle.wgsl_source.specs.Members.{Grows}
-use Rattle.wgsl_source.specs.internal.Items.{behind_events, item_names}
+use Rattle.wgsl_source.proofs.Common.{Grows, behind_events, item_names}
 use Rattle.wgsl_source.proofs.scope.Scope.read_all.Given as goal
 
 abbrev pub invariant-loop-event : goal.invariant-loop-event

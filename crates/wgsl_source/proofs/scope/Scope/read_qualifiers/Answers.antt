@@ -1,6 +1,5 @@
 use Rattle.std.proofs.Common.{IfOk, ap, subst, ◌∙◌}
-use Rattle.wgsl_source.specs.Qualifiers.{AreSaid, names_only}
-use Rattle.wgsl_source.specs.internal.Items.{item_names}
+use Rattle.wgsl_source.proofs.Common.{AreSaid, names_only, item_names}
 use Rattle.wgsl_source.proofs.Items.{all_names}
 use Rattle.wgsl_source.proofs.scope.Scope.read_qualifiers.Goals as goal
 

@@ -1,6 +1,5 @@
 use Rattle.std.proofs.Common.{subst}
-use Rattle.wgsl_syntax.specs.Address.{IsSpace}
-use Rattle.wgsl_syntax.specs.declared.rules.RuleSet.TheVariants.{Standard}
+use Rattle.wgsl_source.proofs.Common.{IsSpace, Standard}
 use Rattle.wgsl_source.proofs.scope.Scope.space.Goals as goal
 
 pub returns-in-Some-clause-named : goal.returns-in-Some-clause-named

@@ -1,6 +1,5 @@
 use Rattle.std.proofs.Common.{ap, refl, sym, ◌∙◌}
-use Rattle.wgsl_source.specs.Declarations.{token_before}
-use Rattle.wgsl_source.specs.internal.Items.{behind_event, item_names, with_last}
+use Rattle.wgsl_source.proofs.Common.{token_before, behind_event, item_names, with_last}
 use Rattle.wgsl_source.proofs.Items.{no_event}
 use Rattle.wgsl_source.proofs.Kept.{on_ok_then}
 use Rattle.wgsl_source.proofs.scope.Scope.step.Goals as goal

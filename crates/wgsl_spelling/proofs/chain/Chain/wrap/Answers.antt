@@ -1,9 +1,6 @@
-use Rattle.std.proofs.Common.{◌≡◌, [], Ok, Err, drop, subst, sym, ap, ◌∙◌}
+use Rattle.std.proofs.Common.{◌≡◌, [], Ok, Err, drop, subst, sym, ap, ◌∙◌, IfOk, Result}
 use Rattle.std.proofs.lemmas.List.{drop_all}
-use Rattle.std.specs.Prelude.{IfOk, Result}
-use Rattle.wgsl_core.specs.View.{view}
-use Rattle.wgsl_rules.specs.types.Around.{around}
-use Rattle.wgsl_spelling.specs.Chains.{wrapped}
+use Rattle.wgsl_spelling.proofs.Common.{view, around, wrapped}
 use Rattle.wgsl_spelling.specs.Stacks.{with_last}
 use Rattle.wgsl_spelling.proofs.TypeTrees.{wrapped_last}
 use Rattle.wgsl_spelling.proofs.chain.Chain.wrap.Goals as goal

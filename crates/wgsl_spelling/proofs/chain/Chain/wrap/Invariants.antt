@@ -1,6 +1,5 @@
 use Rattle.std.proofs.Common.{◌≡◌, drop}
-use Rattle.wgsl_core.specs.View.{view}
-use Rattle.wgsl_spelling.specs.Chains.{wrapped}
+use Rattle.wgsl_spelling.proofs.Common.{view, wrapped}
 use Rattle.wgsl_spelling.proofs.chain.Chain.wrap.Given as goal
 
 -- the layers below the last that are left, around the type so far, are all of those around the innermost

@@ -1,6 +1,5 @@
 use Rattle.std.proofs.Common.{◌≡◌, drop}
-use Rattle.wgsl_names.specs.Stages.{later}
-use Rattle.wgsl_typing.specs.Outcomes.{stage_of}
+use Rattle.wgsl_typing.proofs.Common.{later, stage_of}
 use Rattle.wgsl_typing.proofs.expressions.Expressions.stage_of.Given as goal
 
 -- the stage so far, and that of the arguments that are left

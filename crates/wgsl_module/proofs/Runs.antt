@@ -1,0 +1,36 @@
+-- Events and bodies one behind the other.
+use Rattle.std.proofs.Common.{◌≡◌, ◌∙◌, ◌+◌, ℕ, zero, suc, List, [], ◌∷◌, ◌<◌, arith, drop, get_or, length, slice_get, subst}
+use Rattle.wgsl_module.specs.Noted.{Comes, Does, Reading, State}
+use Rattle.wgsl_module.specs.Runs.{AreBodies, IsBodyOf}
+use Rattle.wgsl_module.specs.declared.declaration.Declaration.{Declaration}
+use Rattle.wgsl_reader.specs.declared.kind.Kind.{Kind}
+use Rattle.wgsl_reader.specs.declared.read.Event.{Event}
+use Rattle.wgsl_reader.specs.declared.token.Token.{Token}
+use Rattle.wgsl_typing.specs.Words.{kind_at}
+
+body_and_rest : (tokens : List Token) (ds : List Declaration) (index : ℕ) (s m r : Reading) → IsBodyOf tokens (slice_get ds index) s m
+    → AreBodies tokens (drop (suc index) ds) m r → AreBodies tokens (drop index ds) s r
+body_and_rest tokens [] zero s m r body rest = rest ∙ body
+body_and_rest tokens [] (suc index) s m r body rest = rest ∙ body
+body_and_rest tokens (d ∷ ds) zero s m r body rest = (m, body, rest)
+body_and_rest tokens (d ∷ ds) (suc index) s m r body rest = body_and_rest tokens ds index s m r body rest
+
+pub next_body : (tokens : List Token) (ds : List Declaration) (index : ℕ) (s m r : Reading) → IsBodyOf tokens (slice_get ds index) s m
+    → AreBodies tokens (drop (index + 1) ds) m r → AreBodies tokens (drop index ds) s r
+next_body tokens ds index s m r body rest =
+    let next : index + 1 ≡ suc index = omega arith in
+    body_and_rest tokens ds index s m r body (subst (λ k. AreBodies tokens (drop k ds) m r) next rest)
+
+event_and_rest : (tokens : List Token) (events : List Event) (index : ℕ) (d : Event) (s m r : State) → index < length events
+    → Does (kind_at tokens (get_or events index d).at) (get_or events index d).mark (get_or events index d).at s m
+    → Comes tokens (drop (suc index) events) m r → Comes tokens (drop index events) s r
+event_and_rest tokens [] index d s m r inside does rest = absurd (omega (arith, inside))
+event_and_rest tokens (e ∷ events) zero d s m r inside does rest = (m, does, rest)
+event_and_rest tokens (e ∷ events) (suc index) d s m r inside does rest = event_and_rest tokens events index d s m r (omega (arith, inside)) does rest
+
+pub next_event : (tokens : List Token) (events : List Event) (index : ℕ) (d : Event) (word : Kind) (s m r : State) → index < length events
+    → word ≡ kind_at tokens (get_or events index d).at → Does word (get_or events index d).mark (get_or events index d).at s m
+    → Comes tokens (drop (index + 1) events) m r → Comes tokens (drop index events) s r
+next_event tokens events index d word s m r inside kind does rest =
+    let next : index + 1 ≡ suc index = omega arith in
+    event_and_rest tokens events index d s m r inside (rw (← kind) does) (subst (λ k. Comes tokens (drop k events) m r) next rest)

@@ -1,0 +1,6 @@
+use Rattle.wgsl_module.specs.Noted.{Keeps, state}
+use Rattle.wgsl_module.proofs.checker.Checker.names_of.Given as goal
+
+-- what is read stays as it is
+abbrev pub invariant-loop-index : goal.invariant-loop-index
+invariant-loop-index l = Keeps (state l.fn.self) (state l.self)

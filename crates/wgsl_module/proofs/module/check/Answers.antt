@@ -1,0 +1,16 @@
+use Rattle.std.proofs.Common.{map, subst}
+use Rattle.wgsl_module.specs.Checked.{told_of_reading}
+use Rattle.wgsl_module.specs.Told.{AreTold}
+use Rattle.wgsl_module.proofs.Allowed.{read_whole}
+use Rattle.wgsl_module.proofs.module.check.Goals as goal
+use Rattle.wgsl_reader.specs.Modules.{ReadsModule}
+use Rattle.wgsl_reader.specs.Reading.{kind_of}
+
+pub returns-clause-read : goal.returns-clause-read
+returns-clause-read c =
+    let grammar = c.in_ok-grammar.grammar in
+    let before = c.in_ok-checked.checked.faults.items in
+    let reads = subst (λ ts. ReadsModule (map kind_of ts) grammar.events.items grammar.misread.items) c.deref.ensures.value c.in_ok-grammar.ensures in
+    let told = subst (λ ts. AreTold (told_of_reading ts grammar.events.items grammar.misread.items) before) c.deref-3.ensures.value c.in_ok-checked.ensures in
+    let faults = c.tell_untyped.new.faults.items in
+    λ none. read_whole c.in_ok-tokens.tokens.items grammar.events.items grammar.misread.items faults reads (λ b h. c.in_ok-tell_untyped.ensures.kept b (told b h)) none

@@ -1,0 +1,60 @@
+// Types, written without `write!` where they are scalars, vectors and arrays: in the Rust crate `array<vec3<f32>, 2>` takes a
+// quarter of the instructions.
+ghost use Rattle.wgsl_core.specs.View.{view};
+ghost use Rattle.wgsl_requests.specs.Prelude.{spelling_by};
+ghost use Rattle.wgsl_requests.specs.Texts.{Writes};
+
+use crate::fast::number::write_number;
+use crate::reply::Made;
+use wgsl_core::ty::Type;
+use wgsl_core::ty::form::Form;
+use wgsl_core::ty::show::ShownType;
+use wgsl_syntax::rules::RuleSet;
+
+/// Writes a type by these rules.
+#[inline(never)]
+pub fn write_type(text: &mut String, rules: RuleSet, ty: &Type) -> Made<()>
+    ensures { Writes (spelling_by rules (view ty.now)) text.old text.new result }
+{
+    match ty.form() {
+        Form::Array(None, element) => {
+            text.push_str("array<")?;
+            write_element(text, rules, element)?;
+            text.push('>')
+        }
+        Form::Array(Some(count), element) => {
+            text.push_str("array<")?;
+            write_element(text, rules, element)?;
+            text.push_str(", ")?;
+            write_number(text, count as u64)?;
+            text.push('>')
+        }
+        _ => write_element(text, rules, ty),
+    }
+}
+
+/// Writes a type that is no array, or is one as any other type.
+fn write_element(text: &mut String, rules: RuleSet, ty: &Type) -> Made<()>
+    ensures { Writes (spelling_by rules (view ty.now)) text.old text.new result }
+{
+    match ty.form() {
+        Form::Vector(components, component) => {
+            text.push_str("vec")?;
+            write_number(text, u64::from(components))?;
+            text.push('<')?;
+            write_component(text, rules, component)?;
+            text.push('>')
+        }
+        _ => write_component(text, rules, ty),
+    }
+}
+
+/// Writes a scalar, or any other type.
+fn write_component(text: &mut String, rules: RuleSet, ty: &Type) -> Made<()>
+    ensures { Writes (spelling_by rules (view ty.now)) text.old text.new result }
+{
+    match ty.form() {
+        Form::Scalar(scalar) => text.push_str(scalar.name()),
+        _ => write!(text, "{}", ShownType { ty, rules }),
+    }
+}

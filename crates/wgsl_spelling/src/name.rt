@@ -1,0 +1,35 @@
+// Values of enumerations by their names.
+ghost use Rattle.std.specs.Prelude.{◌≡◌};
+ghost use Rattle.wgsl_spelling.specs.Names.{access_named, format_named, space_named};
+
+use std::str::FromStr;
+use wgsl_syntax::address::{AccessMode, AddressSpace};
+use wgsl_syntax::rules::RuleSet;
+use wgsl_syntax::texel::TexelFormat;
+
+/// `storage`
+#[tactic(auto, using(crate::proofs::Names::space_is))]
+pub fn space_named(name: &str) -> Option<AddressSpace>
+    ensures { result ≡ space_named name.now }
+{
+    AddressSpace::named_by(RuleSet::Standard, name)
+}
+
+/// `read_write`
+#[tactic(auto, using(crate::proofs::Names::access_is))]
+pub fn access_named(name: &str) -> Option<AccessMode>
+    ensures { result ≡ access_named name.now }
+{
+    match AccessMode::from_str(name) {
+        Ok(access) => Some(access),
+        Err(_) => None,
+    }
+}
+
+/// `rgba8unorm`
+#[tactic(auto, using(crate::proofs::Names::format_is))]
+pub fn format_named(name: &str) -> Option<TexelFormat>
+    ensures { result ≡ format_named name.now }
+{
+    TexelFormat::named_by(RuleSet::Standard, name)
+}
