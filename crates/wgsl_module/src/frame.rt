@@ -38,7 +38,7 @@ impl Around {
         in_continuing: false,
     };
 
-    /// What `break;` does here: one that would end a loop from its `continuing` what `break if` does, another wrong one nothing.
+    /// What `break;` does here. A wrong one does what `break if` does in a `continuing`, and nothing elsewhere.
     pub fn on_break(self) -> Behaviour
         ensures { result ≡ broken_off self }
     {
@@ -51,7 +51,7 @@ impl Around {
         }
     }
 
-    /// What `continue;` does here: a wrong one nothing.
+    /// What `continue;` does here. A wrong one does nothing.
     pub fn on_continue(self) -> Behaviour
         ensures { result ≡ continued self }
     {

@@ -52,10 +52,10 @@ fn names_for(expected: Expected) -> &'static str {
     }
 }
 
-/// The nearest name of a list.
-fn nearest_of<'t>(word: &'t str, list: &'static str) -> Option<&'t str> {
+/// The name of a list that a word may have meant; None if none is near.
+pub fn nearest_of<'t>(word: &'t str, names: &'static str) -> Option<&'t str> {
     let mut nearest = Nearest::to(word);
-    for name in list.split_whitespace() {
+    for name in names.split_whitespace() {
         nearest.offer(name);
     }
     nearest.name

@@ -8,6 +8,7 @@ use wgsl_core::ty::Type;
 use wgsl_names::fault::Rule;
 use wgsl_reader::kind::Kind;
 use wgsl_spelling::meant::TYPES;
+pub use wgsl_spelling::meant::nearest_of;
 use wgsl_standard::meant::meant;
 use wgsl_syntax::nearest::{Nearest, word_of_wgsl};
 
@@ -135,13 +136,6 @@ fn offer_vectors_and_matrices<'a>(nearest: &mut Nearest<'a>, names: &'static str
             nearest.offer(name);
         }
     }
-}
-
-/// The name of a list that a word may have meant.
-pub fn nearest_of<'a>(word: &'a str, names: &'static str) -> Option<&'a str> {
-    let mut nearest = Nearest::to(word);
-    offer_all(&mut nearest, names);
-    nearest.name
 }
 
 fn offer_all<'a>(nearest: &mut Nearest<'a>, names: &'static str) {
