@@ -156,12 +156,12 @@ impl<'t> Expressions<'t> {
         Ok(())
     }
 
-    /// Ranges that must not be empty, or lie outside of 32 bits.
+    /// Ranges that must not be empty, or lie outside of 32 bits. Where all integers are known the value's fault says it.
     pub fn check_ranges(&mut self, name: &str, arguments: &[Part]) -> Result<(), AllocError>
         ensures stack { stack self.new ≡ stack self.old }
     {
         let first = match name {
-            _ if !self.is_evaluated() => return Ok(()),
+            _ if !self.is_evaluated() || are_integers(arguments) => return Ok(()),
             "extractBits" => 1,
             "insertBits" => 2,
             "clamp" => return self.check_clamp(arguments),
@@ -211,6 +211,16 @@ fn is_held(argument: &Part, ty: &Type) -> bool {
         Some(value) => value.converted(ty).is_ok(),
         None => true,
     }
+}
+
+/// Whether each argument is an integer that is known.
+fn are_integers(arguments: &[Part]) -> bool {
+    for argument in arguments {
+        if argument.integer().is_none() {
+            return false;
+        }
+    }
+    true
 }
 
 fn bits(argument: Option<&Part>) -> i64 {
