@@ -1,8 +1,9 @@
 //! Conversions, ranks, common types, and the candidates that are chosen for operators.
 
+mod asked;
 mod tables;
-mod words;
 
+use asked::types;
 use tables::rows;
 use wgsl_types_proved::builtin::binary_candidate;
 use wgsl_types_proved::conv::{
@@ -12,7 +13,6 @@ use wgsl_types_proved::conv::{
 use wgsl_types_proved::inst::LiteralInstance;
 use wgsl_types_proved::requests::answer;
 use wgsl_types_proved::{Instance, Type};
-use words::types;
 
 /// A type as it is spelled, or `none`.
 fn spelled(ty: Option<Type>) -> String {
@@ -49,11 +49,11 @@ fn candidate(operator: &str, lhs: &Type, rhs: &Type) -> String {
 
 #[test]
 fn types_convert_as_the_table_says() {
-    for [asked, words, answer] in rows("tables/conversions.tsv") {
-        let types = types(&words);
+    for [asked, texts, answer] in rows("tables/conversions.tsv") {
+        let types = types(&texts);
         let found = match (&*asked, &types[..]) {
             ("concrete", [ty]) => {
-                assert_eq!(Convert::concretize(ty), Some(Type::concretize(ty)), "of `{words}`");
+                assert_eq!(Convert::concretize(ty), Some(Type::concretize(ty)), "of `{texts}`");
                 ty.concretize().to_string()
             }
             ("to", [a, b]) => {
@@ -69,9 +69,9 @@ fn types_convert_as_the_table_says() {
                 lists.map(listed).join("; ")
             }
             (operator, [lhs, rhs]) => candidate(operator, lhs, rhs),
-            _ => panic!("{asked} of `{words}`"),
+            _ => panic!("{asked} of `{texts}`"),
         };
-        assert_eq!(found, answer, "{asked} of `{words}`");
+        assert_eq!(found, answer, "{asked} of `{texts}`");
     }
 }
 

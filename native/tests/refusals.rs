@@ -1,7 +1,8 @@
 //! Refusals as they are printed, and the signatures in them.
 
-mod words;
+mod asked;
 
+use asked::{one_type, types};
 use wgsl_types_proved::builtin::{type_builtin_fn, typecheck_struct_ctor};
 use wgsl_types_proved::inst::LiteralInstance as Literal;
 use wgsl_types_proved::requests::answer;
@@ -10,7 +11,6 @@ use wgsl_types_proved::tplt::TpltParam;
 use wgsl_types_proved::Error::{self, *};
 use wgsl_types_proved::Type::{self, Bool, F16, F32, I32, U32};
 use wgsl_types_proved::{CallSignature, Instance};
-use words::{one_type, types};
 
 /// Each refusal and its copy print as the message.
 fn expect_messages(rows: &[(Error, &str)]) {
@@ -66,7 +66,7 @@ fn refusals_print_their_messages() {
 
 #[test]
 fn refusals_with_names_and_types_print_their_messages() {
-    let vector = || one_type("vec 3 f32");
+    let vector = || one_type("vec3f");
     let count = Instance::Literal(Literal::AbstractInt(3));
     let call = CallSignature {
         name: "array".to_string(),
@@ -117,13 +117,13 @@ fn a_name_is_found_whole_or_not_at_all() {
 
 #[test]
 fn structs_are_made_of_their_members() {
-    let of = one_type("struct S 2 a - - f32 b - - i32").unwrap_struct();
+    let of = one_type("struct S { a: f32, b: i32 }").unwrap_struct();
     for (args, wanted) in [
         ("", "fits"),
-        ("AbstractInt AbstractInt", "fits"),
+        ("AbstractInt, AbstractInt", "fits"),
         ("AbstractFloat", "incorrect number of arguments to `S`, expected `2`, got `1`"),
-        ("f32 AbstractFloat", "invalid parameter type, expected `i32`, got `AbstractFloat`"),
-        ("bool bool", "invalid parameter type, expected `f32`, got `bool`"),
+        ("f32, AbstractFloat", "invalid parameter type, expected `i32`, got `AbstractFloat`"),
+        ("bool, bool", "invalid parameter type, expected `f32`, got `bool`"),
     ] {
         let found = match typecheck_struct_ctor(&of, &types(args)) {
             Ok(()) => "fits".to_string(),

@@ -1,12 +1,41 @@
-//! Reads requests in WGSL, as the tests write them: operands are types, and no blank is missing.
+//! Reads requests in WGSL, as the tests write them: operands are types, and no blank is missing. Beyond WGSL a struct stands with its
+//! members where a type does, and vectors and matrices have any numbers of components.
+// Each test that has this module uses a part of it.
+#![allow(dead_code)]
 
 use std::collections::HashMap;
 use std::fmt::Debug;
 use std::str::FromStr;
+use wgsl_types_proved::inst::LiteralInstance;
 use wgsl_types_proved::standard::{type_builtin_fn, Operand};
-use wgsl_types_proved::syntax::{AccessMode, AddressSpace, RuleSet};
+use wgsl_types_proved::syntax::{AccessMode, AddressSpace, Enumerant, RuleSet};
+use wgsl_types_proved::tplt::TpltParam;
 use wgsl_types_proved::ty::{StructMemberType, StructType};
 use wgsl_types_proved::Type;
+
+/// The one type that a text spells.
+pub fn one_type(text: &str) -> Type {
+    let [ty] = &types(text)[..] else { panic!("{text}") };
+    ty.clone()
+}
+
+/// The types that a text lists.
+pub fn types(text: &str) -> Vec<Type> {
+    listed(text, |asked| asked.ty())
+}
+
+/// The template parameters that a text lists.
+pub fn parameters(text: &str) -> Vec<TpltParam> {
+    listed(text, |asked| asked.parameter())
+}
+
+fn listed<T>(text: &str, item: fn(&mut Asked) -> T) -> Vec<T> {
+    let text = format!("{text})");
+    let mut asked = Asked { rest: &text, names: HashMap::new() };
+    let items = asked.list(")", item);
+    assert!(asked.is_empty(), "{text}");
+    items
+}
 
 /// The text that isn't read yet, and what names stand for, such as the structs that are declared in front of it.
 pub struct Asked<'a> {
@@ -101,6 +130,9 @@ impl<'a> Asked<'a> {
     }
 
     pub fn ty(&mut self) -> Type {
+        if self.take("struct ") {
+            return self.structure().into();
+        }
         let name = self.word();
         if let Some(ty) = self.names.get(name) {
             return ty.clone();
@@ -118,15 +150,35 @@ impl<'a> Asked<'a> {
                 let element = Box::new(self.ty());
                 Type::BindingArray(element, self.count())
             }
+            "atomic" => Type::Atomic(Box::new(self.ty())),
             "ptr" => self.memory(Type::Ptr),
             "ref" => self.memory(Type::Ref),
-            _ => {
-                let spelled = format!("{name}<{}>", self.until(|c| c == '>'));
-                spelled.parse().expect(&spelled)
-            }
+            _ => match components(name)[..] {
+                [n] => Type::vector(n, self.ty()),
+                [columns, rows] => Type::matrix(columns, rows, self.ty()),
+                _ => {
+                    let spelled = format!("{name}<{}>", self.until(|c| c == '>'));
+                    spelled.parse().expect(&spelled)
+                }
+            },
         };
         self.expect(">");
         ty
+    }
+
+    /// A literal, an enumerant or a type.
+    fn parameter(&mut self) -> TpltParam {
+        let (text, handle) = (self.rest.trim_start(), AddressSpace::Handle);
+        let word = self.until(|c| ",<)".contains(c));
+        match (literal(word), word.parse()) {
+            (Some(literal), _) => TpltParam::Instance(literal.into()),
+            _ if word == "handle" => TpltParam::Enumerant(Enumerant::AddressSpace(handle)),
+            (_, Ok(enumerant)) if !self.rest.starts_with('<') => TpltParam::Enumerant(enumerant),
+            _ => {
+                self.rest = text;
+                TpltParam::Type(self.ty())
+            }
+        }
     }
 
     fn count(&mut self) -> Option<usize> {
@@ -159,4 +211,23 @@ impl<'a> Asked<'a> {
         self.expect(")");
         Some(value)
     }
+}
+
+/// The number of a vector's components, the two of a matrix, and nothing of another name.
+fn components(name: &str) -> Vec<u8> {
+    let numbers = name.strip_prefix("vec").or(name.strip_prefix("mat")).unwrap_or_default();
+    numbers.split('x').filter_map(|number| number.parse().ok()).collect()
+}
+
+/// `true`, `false`, or a number with the suffix of its kind.
+fn literal(word: &str) -> Option<LiteralInstance> {
+    let digits = word.trim_end_matches(char::is_alphabetic);
+    Some(match &word[digits.len()..] {
+        "" => LiteralInstance::AbstractInt(digits.parse().ok()?),
+        "i" => LiteralInstance::I32(digits.parse().ok()?),
+        "u" => LiteralInstance::U32(digits.parse().ok()?),
+        "li" => LiteralInstance::I64(digits.parse().ok()?),
+        "lu" => LiteralInstance::U64(digits.parse().ok()?),
+        truth => LiteralInstance::Bool(truth.parse().ok()?),
+    })
 }
