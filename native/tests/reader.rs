@@ -1,5 +1,5 @@
-//! WGSL's grammar: each text of `tests/grammar/texts.txt` is read or refused as it says, and each of `events.txt` gives the
-//! events there; no word of `kept_words.txt` is a name.
+//! WGSL's grammar: each text of `tests/grammar/texts.txt` is read or refused as it says, each of `tokens.txt` has the tokens and
+//! each of `events.txt` the events there; no word of `kept_words.txt` is a name.
 
 mod tables;
 
@@ -69,88 +69,13 @@ fn kept_words_are_no_names() {
 }
 
 #[test]
-fn tokens_have_places() {
-    let text = "\u{feff}a /* b /* c */ */>>=\u{85}0x1p-2.. // d\u{2028}-> i--\r\n;";
-    let found = tokens(text).unwrap();
-    let found: Vec<_> = found.iter().map(|token| (token.kind, token.text(text))).collect();
-    let expected = [
-        (Kind::Name, "a"),
-        (Kind::OperatorEqual, ">>="),
-        (Kind::Number, "0x1p-2"),
-        (Kind::Period, "."),
-        (Kind::Period, "."),
-        (Kind::Arrow, "->"),
-        (Kind::Name, "i"),
-        (Kind::MinusMinus, "--"),
-        (Kind::Semicolon, ";"),
-    ];
-    assert_eq!(found, expected);
-    for (text, at) in [("a /* b /* c */", 2), ("a # b", 2), ("\u{feff}\u{feff} $", 7), ("\"", 0)] {
-        assert_eq!(tokens(text), Err(at), "{text}");
-    }
-}
-
-/// The tokens of a text, with a blank between each two.
-fn parted(text: &str) -> String {
-    let found = tokens(text).unwrap();
-    found.iter().map(|token| token.text(text)).collect::<Vec<_>>().join(" ")
-}
-
-/// Tokens alone; rows that have the same tokens without their blanks; and rows that haven't.
-#[test]
-fn tokens_are_the_longest_ones() {
-    let numbers =
-        "0 0u 0i 0f 0h 10 0X1F 0XaBu 0xFi 0x1P+1f 0X.8p1h 0x1.p-2 0x1.8 1E1 1e1f 1E-1h 1h \
-        1.h 1.f .0 .0f 00.5 01e2";
-    let signs = "& && &= | || |= ^ ^= + += - -> -= * *= / /= % %= = == ! != < << <= <<= \
-        ( ) [ ] { } @ , ; : . ~ _";
-    for token in numbers.split(' ').chain(signs.split(' ')) {
-        assert_eq!(parted(token), token);
-        let is_number = tokens(token).unwrap()[0].kind == Kind::Number;
-        assert_eq!(is_number, numbers.split(' ').any(|number| number == token), "{token}");
-    }
-    let rows = "0 0, 0 12, 0 8u, 0x1 h, 0x1.8 h, 0x1p1 u, 0x1 p + f, 0 x, 0 xg, 0 x . p1, 1 e, 1 e +, 1. e, \
-        1.5 u, 1f u, 1u 32, 1.5 .5, 1. .2, a .0, a . x, ^ ^, ~ =, != =, == =, && =, || =, -> >, << <, <<= =, \
-        a >> b, a >= b, a >>= b, i ++, i --, i ++ ;, ( i -- ), i - - j";
-    for row in rows.split(", ") {
-        assert_eq!(parted(&row.replace(' ', "")), row);
-    }
-    let kept = "a > > b, a > = b, a > >= b, a >> = b, i + + ;, i - - ;, - >, & &, | |, ! =, < <=";
-    for row in kept.split(", ") {
-        assert_eq!(parted(row), row);
-    }
-}
-
-#[test]
-fn blanks_and_comments_are_no_tokens() {
-    let blanks =
-        "\t \n \u{b} \u{c} \r \u{85} \u{200e} \u{200f} \u{2028} \u{2029}".split(' ').chain([" "]);
-    let comments =
-        ["/**/", "/***/", "/* // */", "/* * / */", "/* /* /* */ */ */", "/*/**/*/", "/*\n*/"];
-    for blank in blanks.chain(comments) {
-        assert_eq!(parted(&format!("a{blank}b")), "a b", "{blank:?}");
-    }
-    for end in ["\n", "\u{b}", "\u{c}", "\r", "\u{85}", "\u{2028}", "\u{2029}"] {
-        assert_eq!(parted(&format!("a/// b /*{end}c")), "a c", "{end:?}");
-    }
-    for inside in ["\t", " ", "\u{200e}", "\u{200f}", "\u{2005}", "\u{2027}", "\u{c5}", "*/"] {
-        assert_eq!(parted(&format!("a// b{inside}c")), "a", "{inside:?}");
-    }
-    for open in ["/*", "/*/", "/* *", "/* /* */", "/* /* /* */ */", "/* // */ /* */*/ /*"] {
-        assert!(tokens(&format!("a {open}")).is_err(), "{open}");
-    }
-}
-
-#[test]
-fn template_lists_are_found() {
-    for (insides, kind) in [
-        (", + - == != <= () [] (&&) [||] ++ #", Kind::OpenTemplate),
-        ("; { : = += <<= && || ( ) [ ]", Kind::Less),
-    ] {
-        for inside in insides.split(' ') {
-            let text = format!("a<b{inside}c>d").replace('#', " ");
-            assert!(tokens(&text).unwrap()[1].kind == kind, "{text}");
-        }
+fn texts_have_tokens() {
+    for [text, expected] in tables::rows("grammar/tokens.txt") {
+        let found = tokens(&text).map(|tokens| {
+            let told = tokens.iter().map(|of| format!("{:?}:{}", of.kind, of.text(&text)));
+            told.collect::<Vec<_>>().join(" ")
+        });
+        assert_eq!(found.unwrap_or_else(|at| format!("byte {at}")), expected, "{text:?}");
     }
 }
 
