@@ -4,11 +4,7 @@ mod random;
 mod tables;
 
 use random::Random;
-use wgsl_types_proved::source::{
-    code, layouts, types, ElementCount, Language, Message, Place, Resource, Stage, TypeTree,
-};
-use wgsl_types_proved::syntax::{AccessMode, AddressSpace, SampledType, Scalar};
-use wgsl_types_proved::ty::{SamplerType, StructType, TextureType};
+use wgsl_types_proved::source::{code, layouts, types, Language, Message};
 use wgsl_types_proved::Type;
 
 const ROUNDS: usize = 20_000;
@@ -41,66 +37,35 @@ fn is_spelled(ty: &Type) -> bool {
     }
 }
 
-const MODULE: &str = "
-struct Light { color: vec3f, power: f32, @align(16) cone: vec2f }
-struct Particles { count: u32, items: array<Light> }
-var<private> counter: i32;
-@group(0) @binding(1) var<storage, read_write> particles: Particles;
-@group(1) @binding(2) var map: texture_2d<f32>;
-@group(1) @binding(3) var<uniform> weights: array<f32, 3>;
-";
-
-#[test]
-fn a_module_is_laid_out() {
-    let module = layouts(MODULE);
-    let [light, particles] = &module.structs[..] else { panic!("{:?}", module.structs) };
-    let members = [
-        ("color", Type::vector(3, Type::F32)),
-        ("power", Type::F32),
-        ("cone", Type::vector(2, Type::F32)),
-    ];
-    let mut of = StructType::new("Light", members);
-    of.members[2].align = Some(16);
-    let layout = of.layout().unwrap();
-    assert_eq!((&*light.name, light.size, light.align), ("Light", layout.size, layout.align));
-    for (member, placed) in light.members.iter().zip(&layout.members) {
-        let measured = (member.offset, member.size, member.align);
-        assert_eq!(measured, (placed.offset, placed.size, placed.align));
+/// What a module declares and is told, as Rust prints it, each with the name of its list; in front the types of its variables, as
+/// WGSL spells them.
+fn told(text: &[u8]) -> Vec<[String; 2]> {
+    let module = layouts(text);
+    let types = module.variables.iter().map(|of| ["types".to_string(), of.ty.to_string()]);
+    let mut told: Vec<_> = types.collect();
+    macro_rules! lists {
+        ($($list:ident)*) => {
+            $(told.extend(module.$list.iter().map(|of| [stringify!($list).into(), format!("{of:?}")]));)*
+        };
     }
-    assert_eq!((light.is_runtime_sized, particles.is_runtime_sized), (false, true));
-    let items = &particles.members[1];
-    assert_eq!(items.ty.to_string(), "array<Light>");
-    assert_eq!((items.offset, items.stride), (16, Some(32)));
-    assert_eq!(particles.members[0].padding, 12);
-    assert_eq!((light.members[0].padding, light.members[2].padding), (0, 8));
-    let of_text = layouts("struct A { b: B, c: C } struct C { d: u32 } struct B { c: C }");
-    let names: Vec<&str> = of_text.structs.iter().map(|of| of.name.as_str()).collect();
-    assert_eq!(names, ["A", "C", "B"]);
+    lists!(structs left_out variables overrides entry_points errors findings);
+    told
 }
 
 #[test]
-fn variables_and_findings_are_told() {
-    let module = layouts(MODULE);
-    let variable = |name| module.variables.iter().find(|variable| variable.name == name).unwrap();
-    let particles = variable("particles");
-    assert_eq!((particles.group, particles.binding), (Some(0), Some(1)));
-    assert_eq!((particles.space, particles.access), (AddressSpace::Storage, AccessMode::ReadWrite));
-    assert_eq!(particles.ty, TypeTree::Struct("Particles".into()));
-    assert_eq!(particles.min_binding_size, Some(48));
-    assert_eq!(particles.resource, Some(Resource::StorageBuffer));
-    assert_eq!(variable("weights").resource, Some(Resource::UniformBuffer));
-    let texture = TextureType::Sampled2D(SampledType::F32);
-    assert_eq!(variable("map").resource, Some(Resource::Texture(texture)));
-    assert_eq!(variable("counter").resource, None);
-    assert_eq!((variable("map").space, variable("map").size), (AddressSpace::Handle, None));
-    let counter = variable("counter");
-    assert_eq!((counter.space, counter.size), (AddressSpace::Private, Some(4)));
-    assert_eq!(counter.min_binding_size, None);
-    assert!(module.errors.is_empty(), "{:?}", module.errors);
-    let [Message { start: Place { line: 7, .. }, text, .. }] = &module.findings[..] else {
-        panic!("{:?}", module.findings)
-    };
-    assert!(text.contains("stride 4"), "{text}");
+fn modules_are_laid_out() {
+    let mut found = Vec::new();
+    for [list, text] in tables::rows("tables/layouts.tsv") {
+        if list == "module" {
+            assert_eq!(found, [[""; 2]; 0], "isn't in the table");
+            found = told(text.as_bytes());
+        } else {
+            assert_eq!(found.remove(0), [list, text]);
+        }
+    }
+    assert_eq!(found, [[""; 2]; 0], "isn't in the table");
+    let [[list, error]] = &told(b"struct A { \xff }")[..] else { panic!() };
+    assert!(list == "errors" && error.contains("Place { line: 1, column: 12,"), "{error}");
 }
 
 #[test]
@@ -113,21 +78,6 @@ fn address_spaces_hold_what_browsers_let_them_hold() {
         assert_eq!(told.is_empty(), verdict == "taken", "{text}: {told:?}");
         assert!(told.len() < 2, "{text}: {told:?}");
     }
-    let array = layouts("struct S { a: array<u32, 2> } var<immediate> x: S;");
-    assert_eq!(array.findings[0].kind, "Array");
-}
-
-#[test]
-fn faults_are_told_and_reading_goes_on() {
-    let module = layouts("struct A { a: \"x\", }\nstruct B { b: f32 }");
-    assert_eq!(module.structs.len(), 1);
-    let [error] = &module.errors[..] else { panic!("{:?}", module.errors) };
-    assert_eq!((error.start.line, error.start.column), (1, 15));
-    assert!(error.to_string().starts_with("1:15: "));
-    let [error] = &layouts(b"struct A { \xff }").errors[..] else { panic!() };
-    assert_eq!((error.start.line, error.start.column), (1, 12));
-    let empty = layouts("");
-    assert!(empty.structs.is_empty() && empty.variables.is_empty() && empty.errors.is_empty());
 }
 
 #[test]
@@ -137,64 +87,6 @@ fn large_modules_need_more_room_than_text() {
     let module = layouts(structs);
     assert_eq!(module.structs.len(), 2000);
     assert!(module.structs.iter().all(|of| of.size == 8));
-}
-
-#[test]
-fn what_a_pipeline_asks_is_told() {
-    let module = layouts(
-        "@id(3) override scale: f32 = 2.0;\noverride flag: bool;\noverride wide = 4u;\n\
-        /* \u{1d11e}é */ @compute @workgroup_size(8, wide) fn main() {}\n\
-        @fragment fn shade() -> @location(0) vec4f { return vec4f(); }",
-    );
-    assert!(module.errors.is_empty(), "{:?}", module.errors);
-    let [scale, flag, wide] = &module.overrides[..] else { panic!("{:?}", module.overrides) };
-    assert_eq!((scale.name.as_str(), scale.id, scale.ty), ("scale", Some(3), Some(Scalar::F32)));
-    assert_eq!((scale.has_default, flag.has_default, wide.has_default), (true, false, true));
-    assert_eq!((flag.id, flag.ty, wide.ty), (None, Some(Scalar::Bool), Some(Scalar::U32)));
-    let place = &flag.place;
-    assert_eq!((place.line, place.column, place.utf16_column), (2, 10, 10));
-    let [main, shade] = &module.entry_points[..] else { panic!("{:?}", module.entry_points) };
-    assert_eq!((main.name.as_str(), main.stage), ("main", Stage::Compute));
-    assert_eq!(main.workgroup_size, Some([Some(8), None, Some(1)]));
-    assert_eq!((main.place.line, main.place.column, main.place.utf16_column), (4, 51, 48));
-    assert_eq!((shade.stage, shade.workgroup_size), (Stage::Fragment, None));
-}
-
-#[test]
-fn places_and_kinds_are_told() {
-    let module = layouts(
-        "struct A {\n  a: f32,\n  é: vec3f }\nvar<uniform> b: A;\nstruct C { \u{1d11e}é: /* ต */ x }",
-    );
-    let told = |of: &Place| (of.line, of.column, of.utf16_column);
-    let [of] = &module.structs[..] else { panic!("{:?}", module.structs) };
-    assert_eq!((told(&of.place), told(&of.members[1].place)), ((1, 8, 8), (3, 3, 3)));
-    let [variable] = &module.variables[..] else { panic!("{:?}", module.variables) };
-    assert_eq!((told(&variable.place), variable.size), ((4, 14, 14), Some(32)));
-    let [error] = &module.errors[..] else { panic!("{:?}", module.errors) };
-    assert_eq!((told(&error.start), told(&error.end)), ((5, 30, 25), (5, 31, 26)));
-    assert_eq!((&*error.kind, &*module.findings[0].kind), ("UnknownName", "NoBinding"));
-}
-
-#[test]
-fn types_are_trees() {
-    let module = layouts(
-        "override N = 2; struct S { a: array<vec3f>, }
-        @group(0) @binding(0) var<storage> a: array<array<S, 3>, 2>; var<workgroup> b: array<f32, N>;
-        var<private> p: ptr<storage, array<f32>, read_write>; @group(0) @binding(1) var s: sampler_comparison;
-        @group(0) @binding(2) var t: texture_storage_2d<rg11b10ufloat, write>;
-        @group(0) @binding(3) var i: binding_array<texture_2d<f32>, 4>;",
-    );
-    let spelled: Vec<String> = module.variables.iter().map(|of| of.ty.to_string()).collect();
-    let wanted =
-        "array<f32, override> | ptr<storage, array<f32>, read_write> | sampler_comparison | \
-        texture_storage_2d<rg11b10ufloat, write> | binding_array<texture_2d<f32>, 4>";
-    assert_eq!(spelled.join(" | "), wanted);
-    let TypeTree::Array { element, count, stride } = &module.variables[0].ty else { panic!() };
-    assert_eq!((count, stride), (&ElementCount::Override, &Some(4)));
-    assert_eq!(**element, TypeTree::Leaf(Type::F32));
-    let sampler = Resource::Sampler(SamplerType::SamplerComparison);
-    assert_eq!(module.variables[2].resource, Some(sampler));
-    assert_eq!(module.variables[4].resource, Some(Resource::Other));
 }
 
 #[test]
@@ -209,7 +101,8 @@ fn declared_types_are_types() {
         };
         assert_eq!((of.size, of.align), (layout.size, layout.align));
         for ((member, placed), ty) in of.members.iter().zip(&layout.members).zip(&ty.members) {
-            assert_eq!((member.offset, member.size), (placed.offset, placed.size));
+            let measured = (member.offset, member.size, member.align);
+            assert_eq!(measured, (placed.offset, placed.size, placed.align));
             assert_eq!(member.ty.to_string(), ty.ty.to_string());
         }
     }
@@ -231,22 +124,12 @@ fn types_that_cannot_be_given_are_left_out() {
 
 #[test]
 fn code_is_written() {
-    for (language, start, between) in [
-        (Language::C, "#pragma once\n", ", \"\");\n\nstruct Particles {\n"),
-        (
-            Language::Rust,
-            "#[allow(non_camel_case_types, non_snake_case)]\n#[repr(C)]\n",
-            ");\n\n#[allow(non_camel_case_types, non_snake_case)]\n",
-        ),
-        (Language::Numpy, "import numpy\n", "})\n\nParticles = numpy.dtype({\n"),
-        (
-            Language::TypeScript,
-            "export const structs = {\n  Light: {\n    size: 32, align: 16,\n",
-            "  },\n  Particles: {\n",
-        ),
-    ] {
-        let code = code(MODULE, language).unwrap();
-        assert!(code.starts_with(start) && code.contains(between), "{code}");
+    let rows = tables::rows::<2>("tables/code.tsv");
+    let languages = [Language::C, Language::Rust, Language::Numpy, Language::TypeScript];
+    assert_eq!(rows.len(), 1 + languages.len());
+    for (language, [name, wanted]) in languages.into_iter().zip(&rows[1..]) {
+        assert_eq!(format!("{language:?}"), *name);
+        assert_eq!(code(&rows[0][1], language).unwrap(), *wanted);
     }
     let error = code("struct A { a: B }\nstruct C { d: x }", Language::Rust).unwrap_err();
     assert_eq!(error.errors.len(), 2);
