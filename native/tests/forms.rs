@@ -4,7 +4,7 @@
 mod asked;
 mod tables;
 
-use asked::Asked;
+use asked::{types, Asked};
 use std::collections::HashMap;
 use std::{env, fs};
 use wgsl_types_proved::mem::StructLayout;
@@ -47,36 +47,32 @@ fn compare(question: &str, found: &Result<String, Refusal>) {
     }
 }
 
+/// Whether a part of an expression is a const-expression, its type, and what it refers to; the types of conditions and returned
+/// values; or why there is none.
 #[test]
 fn parts_are_operands() {
-    let part = |found: Result<Operand, Refusal>| found.unwrap();
-    let (one, i) = (Operand::new(Type::AbstractInt), Operand::new(Type::U32));
-    for constant in [true, false] {
-        let vector = Type::vector(3, Type::F32);
-        let vector = if constant { Operand::constant(vector) } else { Operand::new(vector) };
-        assert_eq!(part(type_of_member(&vector, "x")).is_constant, constant);
-        assert_eq!(part(type_of_member(&vector, "zx")).is_constant, constant);
-        assert_eq!(part(type_of_index(&vector, &one)).is_constant, constant);
-        assert_eq!(part(load(&vector)).is_constant, constant);
-        let element = part(type_of_index(&vector, &i));
-        assert_eq!((element.is_constant, element.referent), (false, Referent::Whole));
+    for [question, expected] in tables::rows("tables/operands.tsv") {
+        let mut asked = Asked::new(&question);
+        let found = operand(&mut asked);
+        assert!(asked.is_empty(), "{question}");
+        assert_eq!(found.unwrap_or_else(|refusal| format!("{refusal:?}")), expected, "{question}");
     }
+}
 
-    let matrix = Operand::new("ref<function, mat2x3<f32>, read_write>".parse().unwrap());
-    let column = part(type_of_index(&matrix, &i));
-    let component = part(type_of_index(&column, &i));
-    assert_eq!((column.referent, component.referent), (Referent::Whole, Referent::Component));
-    let pointer = part(address_of(&column));
-    assert_eq!(part(indirection(&pointer)), column);
-    assert_eq!(part(type_of_member(&pointer, "y")), component);
-    assert_eq!(part(type_of_member(&pointer, "yx")).referent, Referent::Swizzle);
-    assert_eq!(part(type_of_member(&pointer, "yy")).referent, Referent::Whole);
-    assert_eq!(address_of(&component), Err(Refusal::PtrVecComp));
-    assert_eq!(part(load(&component)).referent, Referent::Whole);
-    // Memory that can't be read has no swizzles.
-    let unread = Operand::new("ref<storage, vec3<f32>, write>".parse().unwrap());
-    assert_eq!(type_of_member(&unread, "xy"), Err(Refusal::NotRead));
-    assert_eq!(part(type_of_member(&unread, "x")).referent, Referent::Component);
+fn operand(asked: &mut Asked) -> Result<String, Refusal> {
+    if asked.take("if ") {
+        return condition(&asked.operand()).map(|ty| ty.to_string());
+    }
+    if asked.take("return ") {
+        let ty = asked.ty();
+        asked.expect("of ");
+        return return_value(&asked.operand(), &ty).map(|ty| ty.to_string());
+    }
+    let is_loaded = asked.take("load ");
+    let x = expression(asked)?;
+    let x = if is_loaded { load(&x)? } else { x };
+    let stage = if x.is_constant { "const " } else { "" };
+    Ok(format!("{stage}{} {:?}", x.ty, x.referent))
 }
 
 /// Assignments to swizzles of references: each statement, behind names with their types, is allowed or refused as the WGSL
@@ -241,35 +237,23 @@ fn layout_text(structure: StructType) -> String {
     format!("offsets {offsets}; size {size}; alignment {align}; stride {stride}")
 }
 
-/// A refusal as the file has it.
+/// A refusal as the file has it, its fields as they display.
 fn variant(refusal: &Refusal) -> String {
-    match refusal {
-        Refusal::Component(t, name) => format!("Component({t}, {name})"),
-        Refusal::NotIndexable(t) => format!("NotIndexable({t})"),
-        Refusal::NotInteger(t) => format!("NotInteger({t})"),
-        Refusal::NotConstructible(t) => format!("NotConstructible({t})"),
-        Refusal::NotScalar(t) => format!("NotScalar({t})"),
-        Refusal::NotReference(t) => format!("NotReference({t})"),
-        Refusal::NotInSpace(space, t) => format!("NotInSpace({space}, {t})"),
-        Refusal::Initialized(space) => format!("Initialized({space})"),
-        Refusal::AccessMode(space, access) => format!("AccessMode({space}, {access})"),
-        Refusal::NotCondition(t) => format!("NotCondition({t})"),
-        Refusal::NotReturned(expected, t) => format!("NotReturned({expected}, {t})"),
-        Refusal::Conversion(t, to) => format!("Conversion({t}, {to})"),
-        Refusal::WriteRefType(t, to) => format!("WriteRefType({t}, {to})"),
-        Refusal::Unary(operator, t) => format!("Unary({operator}, {t})"),
-        Refusal::Binary(operator, a, b) => format!("Binary({operator}, {a}, {b})"),
-        Refusal::ParamCount(name, takes, count) => format!("ParamCount({name}, {takes}, {count})"),
-        Refusal::ParamType(expected, t) => format!("ParamType({expected}, {t})"),
-        Refusal::Builtin(text) => format!("Builtin({text})"),
-        without_fields => format!("{without_fields:?}"),
+    macro_rules! shown {
+        ($($variant:ident($($field:ident),*))*) => {
+            match refusal {
+                $(Refusal::$variant($($field),*) => {
+                    format!("{}({})", stringify!($variant), [$($field.to_string()),*].join(", "))
+                })*
+                without_fields => format!("{without_fields:?}"),
+            }
+        };
     }
-}
-
-/// The types of a list of texts.
-fn types(texts: &str) -> Vec<Type> {
-    let texts = texts.split("; ").filter(|text| !text.is_empty());
-    texts.map(|text| text.parse().expect(text)).collect()
+    shown! {
+        Component(t, name) NotIndexable(t) NotInteger(t) NotConstructible(t) NotScalar(t) NotReference(t) NotInSpace(space, t)
+        Initialized(space) AccessMode(space, access) NotCondition(t) NotReturned(expected, t) Conversion(t, to) WriteRefType(t, to)
+        Unary(operator, t) Binary(operator, a, b) ParamCount(name, takes, count) ParamType(expected, t) Builtin(text)
+    }
 }
 
 /// A refused list names the value to blame, and none if it is no value's fault.
@@ -294,24 +278,4 @@ fn misfits() {
     }
     let cases = [Operand::constant(Type::I32), Operand::new(Type::I32), Operand::new(Type::I32)];
     assert_eq!(switch_type(&cases[0], &cases).unwrap_err().index, Some(1));
-}
-
-/// Conditions and returned values have words of their own.
-#[test]
-fn control_flow() {
-    let loaded = Operand::new("ref<private, bool, read>".parse().unwrap());
-    assert_eq!(condition(&loaded), Ok(Type::Bool));
-    for text in ["u32", "vec2<bool>", "ptr<private, bool>"] {
-        let x = Operand::new(text.parse().unwrap());
-        assert_eq!(condition(&x), Err(Refusal::NotCondition(x.ty)));
-    }
-    let unread = Operand::new("ref<private, bool, write>".parse().unwrap());
-    assert_eq!(condition(&unread), Err(Refusal::NotRead));
-    assert_eq!(return_value(&unread, &Type::Bool), Err(Refusal::NotRead));
-    assert_eq!(return_value(&loaded, &Type::Bool), Ok(Type::Bool));
-    assert_eq!(return_value(&loaded, &Type::I32), Err(Refusal::NotReturned(Type::I32, Type::Bool)));
-    for text in ["AbstractInt", "ptr<private, bool>", "atomic<u32>"] {
-        let ty: Type = text.parse().unwrap();
-        assert_eq!(return_value(&loaded, &ty), Err(Refusal::NotConstructible(ty)));
-    }
 }
