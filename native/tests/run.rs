@@ -3,7 +3,8 @@
 
 mod tables;
 
-use std::io::{self, ErrorKind, Read, Write};
+use std::io::ErrorKind::{self, Interrupted, Other};
+use std::io::{self, Read, Write};
 use std::sync::LazyLock;
 use wgsl_types_proved::programs::{run, status, RunError};
 
@@ -13,41 +14,28 @@ const WHOLE: usize = 1 << 20;
 /// A line of every command, a blank one and one that can't be read, each with what is printed for it.
 static LINES: LazyLock<Vec<[String; 2]>> = LazyLock::new(|| tables::rows("tables/run.tsv"));
 
-/// A call that fails after that many, and how.
-#[derive(Clone, Copy)]
-struct Fault {
-    after: usize,
-    kind: ErrorKind,
-}
+/// After how many calls one fails, and how.
+type Fault = Option<(usize, ErrorKind)>;
 
-impl Fault {
-    /// Fails the call if it is the one.
-    fn count(fault: &mut Option<Fault>) -> io::Result<()> {
-        match fault {
-            Some(Fault { after: 0, kind }) => {
-                let kind = *kind;
-                *fault = None;
-                Err(kind.into())
-            }
-            Some(fault) => {
-                fault.after -= 1;
-                Ok(())
-            }
-            None => Ok(()),
-        }
+/// Fails the call if it is the one.
+fn count(fault: &mut Fault) -> io::Result<()> {
+    match fault.take() {
+        Some((0, kind)) => return Err(kind.into()),
+        later => *fault = later.map(|(after, kind)| (after - 1, kind)),
     }
+    Ok(())
 }
 
 /// Gives its bytes, a few per read.
 struct Source<'a> {
     rest: &'a [u8],
     most: usize,
-    fault: Option<Fault>,
+    fault: Fault,
 }
 
 impl Read for Source<'_> {
     fn read(&mut self, buffer: &mut [u8]) -> io::Result<usize> {
-        Fault::count(&mut self.fault)?;
+        count(&mut self.fault)?;
         let most = self.most.min(buffer.len());
         self.rest.read(&mut buffer[..most])
     }
@@ -57,11 +45,11 @@ impl Read for Source<'_> {
 struct Target {
     taken: Vec<u8>,
     most: usize,
-    fault: Option<Fault>,
+    fault: Fault,
     /// How many bytes had been written when it was last flushed.
     flushed: usize,
     /// The flush that fails.
-    stuck: Option<Fault>,
+    stuck: Fault,
 }
 
 impl Target {
@@ -72,23 +60,15 @@ impl Target {
 
 impl Write for Target {
     fn write(&mut self, buffer: &[u8]) -> io::Result<usize> {
-        Fault::count(&mut self.fault)?;
+        count(&mut self.fault)?;
         self.taken.write(&buffer[..self.most.min(buffer.len())])
     }
 
     fn flush(&mut self) -> io::Result<()> {
-        Fault::count(&mut self.stuck)?;
+        count(&mut self.stuck)?;
         self.flushed = self.taken.len();
         Ok(())
     }
-}
-
-fn failing(after: usize) -> Option<Fault> {
-    Some(Fault { after, kind: ErrorKind::Other })
-}
-
-fn interrupted(after: usize) -> Option<Fault> {
-    Some(Fault { after, kind: ErrorKind::Interrupted })
 }
 
 fn input() -> String {
@@ -111,7 +91,7 @@ fn expect(mut source: Source, mut target: Target, outcome: Result<bool, RunError
     assert_eq!(target.flushed, output.len());
 }
 
-fn source(text: &str, most: usize, fault: Option<Fault>) -> Source<'_> {
+fn source(text: &str, most: usize, fault: Fault) -> Source<'_> {
     Source { rest: text.as_bytes(), most, fault }
 }
 
@@ -129,10 +109,12 @@ fn expect_reads(most_read: usize, most_written: usize, reads: usize) {
         let read = &input.as_bytes()[..before.saturating_mul(most_read).min(input.len())];
         let answered = answers(lines_in(read));
         let target = Target::new(most_written);
-        expect(source(&input, most_read, failing(before)), target, Err(RunError::Read), &answered);
+        let source = source(&input, most_read, Some((before, Other)));
+        expect(source, target, Err(RunError::Read), &answered);
     }
     let all = answers(LINES.len());
-    expect(source(&input, most_read, failing(reads)), Target::new(most_written), Ok(false), &all);
+    let source = source(&input, most_read, Some((reads, Other)));
+    expect(source, Target::new(most_written), Ok(false), &all);
 }
 
 #[test]
@@ -148,7 +130,7 @@ fn a_run_ends_at_the_read_that_fails() {
 fn an_interrupted_read_changes_nothing() {
     let input = input();
     for before in 0..input.len() {
-        let source = source(&input, 1, interrupted(before));
+        let source = source(&input, 1, Some((before, Interrupted)));
         expect(source, Target::new(1), Ok(false), &answers(LINES.len()));
     }
 }
@@ -157,13 +139,13 @@ fn an_interrupted_read_changes_nothing() {
 fn expect_writes(most_read: usize, most_written: usize, writes: usize) {
     let (input, answers) = (input(), answers(LINES.len()));
     for before in 0..writes {
-        let mut target = Target { fault: failing(before), ..Target::new(most_written) };
+        let mut target = Target { fault: Some((before, Other)), ..Target::new(most_written) };
         let outcome = run(&mut source(&input, most_read, None), &mut target);
         assert_eq!(outcome, Err(RunError::Write));
         assert!(answers.as_bytes().starts_with(&target.taken));
         assert!(most_written > 1 || target.taken.len() == before);
     }
-    let target = Target { fault: failing(writes), ..Target::new(most_written) };
+    let target = Target { fault: Some((writes, Other)), ..Target::new(most_written) };
     expect(source(&input, most_read, None), target, Ok(false), &answers);
 }
 
@@ -192,7 +174,7 @@ f32
 #[test]
 fn nothing_is_written_after_a_failed_write() {
     let lines = "binary + i32 i32\nbinary + u32 u32\n";
-    let mut target = Target { fault: failing(1), ..Target::new(WHOLE) };
+    let mut target = Target { fault: Some((1, Other)), ..Target::new(WHOLE) };
     let outcome = run(&mut source(lines, 17, None), &mut target);
     assert_eq!((outcome, target.taken), (Err(RunError::Write), b"i32\n".to_vec()));
 }
@@ -201,7 +183,7 @@ fn nothing_is_written_after_a_failed_write() {
 fn an_interrupted_write_changes_nothing() {
     let (input, answers) = (input(), answers(LINES.len()));
     for before in 0..answers.len() {
-        let target = Target { fault: interrupted(before), ..Target::new(1) };
+        let target = Target { fault: Some((before, Interrupted)), ..Target::new(1) };
         expect(source(&input, WHOLE, None), target, Ok(false), &answers);
     }
 }
@@ -209,7 +191,7 @@ fn an_interrupted_write_changes_nothing() {
 #[test]
 fn a_run_ends_at_the_flush_that_fails() {
     let input = input();
-    let mut target = Target { stuck: failing(0), ..Target::new(WHOLE) };
+    let mut target = Target { stuck: Some((0, Other)), ..Target::new(WHOLE) };
     let outcome = run(&mut source(&input, WHOLE, None), &mut target);
     assert_eq!(outcome, Err(RunError::Write));
     assert_eq!(target.taken, answers(LINES.len()).as_bytes());
