@@ -104,16 +104,12 @@ fn constructors_are_known_by_their_names() {
 
 #[test]
 fn functions_are_found_by_one_comparison() {
-    for (name, is_found) in [
-        ("abs", true),
-        ("workgroupUniformLoad", true),
-        ("pack4xU8Clamp", true),
-        ("", false),
-        ("ab", false),
-        ("absA", false),
-        ("zz", false),
-    ] {
-        let (index, compared) = find_call(name);
-        assert_eq!((index.is_some(), compared), (is_found, 1), "{name}");
+    for (names, is_found) in
+        [("abs workgroupUniformLoad pack4xU8Clamp", true), (" ab absA zz", false)]
+    {
+        for name in names.split(' ') {
+            let (index, compared) = find_call(name);
+            assert_eq!((index.is_some(), compared), (is_found, 1), "{name}");
+        }
     }
 }

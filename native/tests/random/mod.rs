@@ -19,6 +19,8 @@ const SPACES: [AddressSpace; 7] =
     [Function, Private, Workgroup, Uniform, Storage, Handle, PushConstant];
 const ACCESS_MODES: [AccessMode; 4] =
     [AccessMode::Read, AccessMode::Write, AccessMode::ReadWrite, AccessMode::Atomic];
+const FLAGS: [Option<AccelerationStructureFlags>; 2] =
+    [None, Some(AccelerationStructureFlags::VertexReturn)];
 const TEXTURES: [TextureType; 8] = [
     TextureType::Sampled2D(SampledType::F32),
     TextureType::SampledCubeArray(SampledType::U32),
@@ -40,11 +42,8 @@ impl Random {
         Random(seed.wrapping_mul(0x9e37_79b9_7f4a_7c15) | 1)
     }
 
+    /// A number below another.
     pub fn number(&mut self, bound: usize) -> usize {
-        self.below(bound)
-    }
-
-    fn below(&mut self, bound: usize) -> usize {
         self.0 ^= self.0 << 13;
         self.0 ^= self.0 >> 7;
         self.0 ^= self.0 << 17;
@@ -52,26 +51,26 @@ impl Random {
     }
 
     fn of<T: Clone>(&mut self, values: &[T]) -> T {
-        values[self.below(values.len())].clone()
+        values[self.number(values.len())].clone()
     }
 
     fn count(&mut self) -> Option<usize> {
-        [None, Some(0), Some(2), Some(4), Some(usize::MAX)][self.below(5)]
+        [None, Some(0), Some(2), Some(4), Some(usize::MAX)][self.number(5)]
     }
 
     fn attribute(&mut self) -> Option<u32> {
-        [None, None, None, Some(0), Some(4), Some(16), Some(u32::MAX)][self.below(7)]
+        [None, None, None, Some(0), Some(4), Some(16), Some(u32::MAX)][self.number(7)]
     }
 
     /// A type that is nested at most `levels` deep.
     pub fn ty(&mut self, levels: usize) -> Type {
-        if levels == 1 || self.below(3) == 0 {
+        if levels == 1 || self.number(3) == 0 {
             return self.leaf();
         }
         let inner = Box::new(self.ty(levels - 1));
-        match self.below(9) {
-            0 | 1 => Type::Vec(self.below(5) as u8, inner),
-            2 => Type::Mat(self.below(5) as u8, self.below(5) as u8, inner),
+        match self.number(9) {
+            0 | 1 => Type::Vec(self.number(5) as u8, inner),
+            2 => Type::Mat(self.number(5) as u8, self.number(5) as u8, inner),
             3 => Type::Array(inner, self.count()),
             4 => Type::Atomic(inner),
             5 => Type::Ptr(self.of(&SPACES), inner, self.of(&ACCESS_MODES)),
@@ -82,26 +81,20 @@ impl Random {
     }
 
     fn leaf(&mut self) -> Type {
-        match self.below(12) {
+        match self.number(12) {
             0 => Type::Texture(self.of(&TEXTURES)),
             1 => Type::Sampler(self.of(&[SamplerType::Sampler, SamplerType::SamplerComparison])),
-            2 => Type::RayQuery(self.of(&[None, Some(AccelerationStructureFlags::VertexReturn)])),
-            3 => Type::AccelerationStructure(
-                self.of(&[None, Some(AccelerationStructureFlags::VertexReturn)]),
-            ),
+            2 => Type::RayQuery(self.of(&FLAGS)),
+            3 => Type::AccelerationStructure(self.of(&FLAGS)),
             _ => self.of(&SCALARS),
         }
     }
 
     fn structure(&mut self, levels: usize) -> Type {
-        let members = (0..self.below(4)).map(|index| {
+        let members = (0..self.number(4)).map(|index| {
             let (ty, size, align) = (self.ty(levels - 1), self.attribute(), self.attribute());
-            StructMemberType {
-                name: ["a", "größe", "long_name"][index].to_string(),
-                ty,
-                size,
-                align,
-            }
+            let name = ["a", "größe", "long_name"][index].to_string();
+            StructMemberType { name, ty, size, align }
         });
         let members = members.collect();
         Type::from(StructType { name: self.of(&["S", "Struct", "名"]).to_string(), members })
@@ -110,9 +103,9 @@ impl Random {
     /// A scalar or a vector, mostly.
     fn value(&mut self) -> Type {
         let scalar = self.of(&SCALARS);
-        match self.below(6) {
-            0 | 1 => Type::vector(2 + self.below(2) as u8, scalar),
-            2 => Type::matrix(2 + self.below(2) as u8, 2, scalar),
+        match self.number(6) {
+            0 | 1 => Type::vector(2 + self.number(2) as u8, scalar),
+            2 => Type::matrix(2 + self.number(2) as u8, 2, scalar),
             3 => self.ty(2),
             _ => scalar,
         }
@@ -120,8 +113,8 @@ impl Random {
 
     /// Types that may have a common one: one layer around several scalars.
     pub fn like_types(&mut self) -> Vec<Type> {
-        let layer = self.below(4);
-        let types = (0..self.below(5)).map(|_| {
+        let layer = self.number(4);
+        let types = (0..self.number(5)).map(|_| {
             let scalar = self.of(&SCALARS[1..]);
             match layer {
                 0 => scalar,
@@ -148,26 +141,20 @@ impl Random {
     /// A name, a template and arguments.
     pub fn call(&mut self) -> (&'static str, Option<Vec<TpltParam>>, Vec<Type>) {
         let name = self.of(&CALLED.split(' ').collect::<Vec<_>>());
-        let tplt = (self.below(4) == 0)
-            .then(|| (0..self.below(3)).map(|index| self.parameter(index)).collect());
+        let tplt = (self.number(4) == 0)
+            .then(|| (0..self.number(3)).map(|index| self.parameter(index)).collect());
         let first = self.value();
-        let args =
-            (0..self.below(5)).map(
-                |_| {
-                    if self.below(2) == 0 {
-                        first.clone()
-                    } else {
-                        self.value()
-                    }
-                },
-            );
+        let args = (0..self.number(5)).map(|_| match self.number(2) {
+            0 => first.clone(),
+            _ => self.value(),
+        });
         (name, tplt, args.collect())
     }
 
     /// An operand, which is now and then a const-expression or a reference.
     pub fn operand(&mut self) -> Operand {
         let ty = self.value();
-        match self.below(8) {
+        match self.number(8) {
             0 => Operand::new(Type::Ref(self.of(&SPACES), Box::new(ty), self.of(&ACCESS_MODES))),
             1..=4 => Operand::constant(ty),
             _ => Operand::new(ty),
@@ -177,14 +164,14 @@ impl Random {
     /// A name, a template and operands, for WGSL's own overloads.
     pub fn standard_call(&mut self) -> (&'static str, Option<Type>, Vec<Operand>) {
         let (name, _, arguments) = self.call();
-        let template = (self.below(4) == 0).then(|| self.value());
-        let operand = if self.below(2) == 0 { Operand::constant } else { Operand::new };
+        let template = (self.number(4) == 0).then(|| self.value());
+        let operand = if self.number(2) == 0 { Operand::constant } else { Operand::new };
         let operands = arguments.into_iter().map(operand).collect();
         (name, template, operands)
     }
 
     fn parameter(&mut self, index: usize) -> TpltParam {
-        match self.below(4) {
+        match self.number(4) {
             0 => TpltParam::Instance(Instance::Literal(self.literal())),
             1 => TpltParam::Enumerant(self.enumerant()),
             _ if index == 1 => TpltParam::Instance(Instance::Literal(self.literal())),
@@ -215,19 +202,16 @@ impl Random {
     }
 }
 
-fn or_dash(value: Option<u32>) -> String {
-    value.map_or("-".to_string(), |value| value.to_string())
+/// A value, or the word for none.
+fn or<T: ToString>(value: &Option<T>, none: &str) -> String {
+    value.as_ref().map_or(none.to_string(), T::to_string)
 }
 
 /// The words of a request that spell the type.
 pub fn words(ty: &Type) -> String {
-    let count = |count: &Option<usize>| count.map_or("*".to_string(), |count| count.to_string());
-    let flag = |flag: &Option<AccelerationStructureFlags>| {
-        flag.map_or("-".to_string(), |flag| flag.to_string())
-    };
     match ty {
-        Type::Array(ty, n) => format!("array {} {}", count(n), words(ty)),
-        Type::BindingArray(ty, n) => format!("binding_array {} {}", count(n), words(ty)),
+        Type::Array(ty, n) => format!("array {} {}", or(n, "*"), words(ty)),
+        Type::BindingArray(ty, n) => format!("binding_array {} {}", or(n, "*"), words(ty)),
         Type::Vec(n, ty) => format!("vec {n} {}", words(ty)),
         Type::Mat(c, r, ty) => format!("mat {c} {r} {}", words(ty)),
         Type::Atomic(ty) => format!("atomic {}", words(ty)),
@@ -236,13 +220,13 @@ pub fn words(ty: &Type) -> String {
         Type::Struct(of) => of.members.iter().fold(
             format!("struct {} {}", of.name, of.members.len()),
             |text, member| {
-                let (size, align) = (or_dash(member.size), or_dash(member.align));
+                let (size, align) = (or(&member.size, "-"), or(&member.align, "-"));
                 format!("{text} {} {size} {align} {}", member.name, words(&member.ty))
             },
         ),
         Type::Texture(texture) => texture.to_string().replace(['<', ',', '>'], " "),
-        Type::RayQuery(f) => format!("ray_query {}", flag(f)),
-        Type::AccelerationStructure(f) => format!("acceleration_structure {}", flag(f)),
+        Type::RayQuery(f) => format!("ray_query {}", or(f, "-")),
+        Type::AccelerationStructure(f) => format!("acceleration_structure {}", or(f, "-")),
         _ => ty.to_string(),
     }
 }
