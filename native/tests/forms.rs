@@ -8,7 +8,6 @@ use asked::{types, Asked};
 use std::collections::HashMap;
 use std::{env, fs};
 use wgsl_types_proved::mem::StructLayout;
-use wgsl_types_proved::requests::{standard_answer, Error};
 use wgsl_types_proved::standard::*;
 use wgsl_types_proved::syntax::AddressSpace;
 use wgsl_types_proved::ty::StructType;
@@ -25,7 +24,9 @@ fn questions_are_answered() {
         let found = answer(&mut asked).map(in_wgsl);
         assert!(asked.is_empty(), "{question}");
         if !question.contains("layout struct ") {
-            compare(question, &found);
+            // The request has the same answer.
+            let told = found.clone().map_err(|refusal| refusal.to_string());
+            assert_eq!(asked::reply(question), Some(told), "{question}");
         }
         let refused = |refusal| format!("refused\t{}", in_wgsl(variant(&refusal)));
         let found = found.unwrap_or_else(refused);
@@ -33,18 +34,6 @@ fn questions_are_answered() {
         count += 1;
     }
     assert!(count > 600, "there are only {count} questions");
-}
-
-/// The request has the same answer, of a part of an expression behind its column.
-fn compare(question: &str, found: &Result<String, Refusal>) {
-    match (standard_answer(question), found) {
-        (Ok(answered), Ok(found)) => assert_eq!(&answered, found, "{question}"),
-        (Err(Error::Refused(told)), Err(refusal)) => {
-            let message = told.split_once(": ").filter(|(place, _)| place.starts_with("column "));
-            assert_eq!(message.map_or(&*told, |(_, why)| why), refusal.to_string(), "{question}");
-        }
-        (answered, found) => panic!("{question}: {answered:?}, and not {found:?}"),
-    }
 }
 
 /// Whether a part of an expression is a const-expression, its type, and what it refers to; the types of conditions and returned

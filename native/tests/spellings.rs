@@ -14,17 +14,21 @@ fn rows<const CELLS: usize>(name: &str) -> Vec<[String; CELLS]> {
     tables::rows(&format!("spellings/{name}.txt"))
 }
 
+/// What is read, or `refused`.
+fn or_refused<T: ToString>(found: Option<T>) -> String {
+    found.map_or("refused".to_string(), |found| found.to_string())
+}
+
 /// What an alias of a file is that has this text.
 fn type_in_file(text: &str) -> String {
     let file = format!("enable f16; alias A = {text};");
     let is_read = layouts(&file).errors.is_empty();
-    let found = types(&file).remove("A").filter(|_| is_read);
-    found.map_or("refused".to_string(), |ty| ty.to_string())
+    or_refused(types(&file).remove("A").filter(|_| is_read))
 }
 
 /// What `type` answers to a text, by WGSL's own rules.
 fn type_of(text: &str) -> String {
-    standard_answer(&format!("type {text}")).unwrap_or("refused".to_string())
+    or_refused(standard_answer(&format!("type {text}")).ok())
 }
 
 #[test]
@@ -33,9 +37,7 @@ fn each_type_is_read_by_each_door() {
     assert_eq!(rows.len(), 93);
     for [text, expected, in_file] in rows {
         assert_eq!(type_in_file(&text), in_file, "a file with {text}");
-        let found = text.parse::<Type>();
-        let answer = found.map_or("refused".to_string(), |ty| ty.to_string());
-        assert_eq!(answer, expected, "{text}");
+        assert_eq!(or_refused(text.parse::<Type>().ok()), expected, "{text}");
         // An expression may stand in brackets, and a request is one line.
         if text != "(vec3f)" && !text.contains('\n') {
             assert_eq!(type_of(&text), expected, "type {text}");
@@ -56,8 +58,7 @@ fn each_literal_is_read_by_each_door() {
             [token] => token.literal_type(&text),
             _ => None,
         };
-        let answer = found.map_or("refused".to_string(), |ty| ty.to_string());
-        assert_eq!(answer, expected, "{text}");
+        assert_eq!(or_refused(found), expected, "{text}");
         assert_eq!(type_of(&text), expected, "type {text}");
     }
 }
@@ -85,10 +86,8 @@ fn a_count_may_have_calls_and_components() {
     assert_eq!(rows.len(), 54);
     for [count, value] in rows {
         let text = format!("array<f32, {count}>");
-        let found = text.parse::<Type>();
-        let answer = found.map_or("refused".to_string(), |ty| ty.to_string());
         let expected = if value == "refused" { value } else { format!("array<f32, {value}>") };
-        assert_eq!(answer, expected, "{text}");
+        assert_eq!(or_refused(text.parse::<Type>().ok()), expected, "{text}");
     }
 }
 

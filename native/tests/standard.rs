@@ -1,28 +1,22 @@
 //! WGSL's own overloads: the results of calls print as the answers to the same requests.
 
+mod asked;
 mod random;
 
 use random::Random;
 use std::collections::BTreeSet;
 use wgsl_types_proved::builtin::is_ctor;
-use wgsl_types_proved::requests::{standard_answer, Error};
+use wgsl_types_proved::requests::standard_answer;
 use wgsl_types_proved::standard::*;
 use wgsl_types_proved::syntax::{BinaryOperator, UnaryOperator};
 use wgsl_types_proved::Type;
 
 const ROUNDS: usize = 20_000;
 
-/// Whether a request can be read; then it has that answer, of a part of an expression behind its column.
+/// Whether a request can be read; then it has that answer.
 fn is_answered(request: &str, found: &str) -> bool {
-    match standard_answer(request) {
-        Ok(answered) => assert_eq!(answered, found, "{request}"),
-        Err(Error::Refused(told)) => {
-            let message = told.split_once(": ").filter(|(place, _)| place.starts_with("column "));
-            assert_eq!(message.map_or(&*told, |(_, why)| why), found, "{request}");
-        }
-        Err(_) => return false,
-    }
-    true
+    let told = asked::reply(request).map(|told| told.unwrap_or_else(|why| why));
+    told.inspect(|told| assert_eq!(told, found, "{request}")).is_some()
 }
 
 /// The operand as WGSL spells it, but for structs and vectors of other lengths, which no request can spell.

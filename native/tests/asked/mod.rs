@@ -7,11 +7,24 @@ use std::collections::HashMap;
 use std::fmt::Debug;
 use std::str::FromStr;
 use wgsl_types_proved::inst::LiteralInstance;
+use wgsl_types_proved::requests::{standard_answer, Error};
 use wgsl_types_proved::standard::{type_builtin_fn, Operand};
 use wgsl_types_proved::syntax::{AccessMode, AddressSpace, Enumerant, RuleSet};
 use wgsl_types_proved::tplt::TpltParam;
 use wgsl_types_proved::ty::{StructMemberType, StructType};
 use wgsl_types_proved::Type;
+
+/// The answer to a request, or why it is refused, of a part of an expression without its column; None if it can't be read.
+pub fn reply(request: &str) -> Option<Result<String, String>> {
+    match standard_answer(request) {
+        Err(Error::Refused(told)) => {
+            let message = told.split_once(": ").filter(|(place, _)| place.starts_with("column "));
+            Some(Err(message.map_or(&*told, |(_, why)| why).to_string()))
+        }
+        Err(_) => None,
+        Ok(answer) => Some(Ok(answer)),
+    }
+}
 
 /// The one type that a text spells.
 pub fn one_type(text: &str) -> Type {
