@@ -39,18 +39,6 @@ pub fn path(source: &mut Source<'_>, index: usize, project: &Project<'_>) -> App
     Ok(Some(index + 2))
 }
 
-/// `TpltParam::Ty`, and where it is declared.
-pub fn template_parameter(source: &mut Source<'_>, index: usize, _: &Project<'_>) -> Applied {
-    if source.at(index) != "Ty"
-        || source.before(index, 2) != "TpltParam"
-        || !matches!(source.before(index, 1), "::" | "{")
-    {
-        return Ok(None);
-    }
-    source.put(index, index, "Type");
-    Ok(Some(index + 1))
-}
-
 /// `Vec::new(`, `.push(` and their like. Methods of these names that a source declares have the prefix too.
 pub fn of_std(source: &mut Source<'_>, index: usize, _: &Project<'_>) -> Applied {
     let (name, ty) = (source.at(index), source.before(index, 2));

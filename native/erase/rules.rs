@@ -22,13 +22,11 @@ type Rule = fn(&mut Source<'_>, usize, &Project<'_>) -> Applied;
 pub type Applied = Result<Option<usize>, Refusal>;
 
 /// The rules. The first one that knows the construct at a token applies.
-const RULES: [Rule; 15] = [
+const RULES: [Rule; 13] = [
     // Left out: contracts, what only these use, and attributes for the prover make no code.
     ghost_item,
     clause,
     attribute,
-    // Left out: here a call from C is a plain function, which `native/c` exports.
-    exported,
     // Left out: a program's tests are for the proved build, whose `main` they drive.
     tests,
     // `Drop` in a derive says that values may be dropped, which is true of any value in Rust; an `impl Drop` in a
@@ -39,12 +37,9 @@ const RULES: [Rule; 15] = [
     // Rust's `Formatter` has no parameter for what it writes to.
     formatter,
     writer,
-    // Rust calls a binary's `main` without arguments, so the binary's own `main` calls this one.
-    main_function,
+    replaced,
     // Each crate becomes a module. The names of crates, and `std`, come from the line that is inserted.
     names::path,
-    // In the proofs only the enumeration may be named `Type`. Users know this variant as `Type`.
-    names::template_parameter,
     // Rust's `Box`, `Vec`, `String` and `BTreeMap` have functions of these names with other parameters and results, and
     // its integers have some only since 1.87. The shim has Rattle's functions in traits, with a prefix. A name that it
     // lacks doesn't compile.
@@ -125,15 +120,6 @@ fn attribute(source: &mut Source<'_>, index: usize, _: &Project<'_>) -> Applied 
     }
 }
 
-/// `extern "C"` in front of a function.
-fn exported(source: &mut Source<'_>, index: usize, _: &Project<'_>) -> Applied {
-    if !source.has(index, &["extern", "\"C\"", "fn"]) {
-        return Ok(None);
-    }
-    source.leave_out(index, index + 1);
-    Ok(Some(index + 2))
-}
-
 /// `#[cfg(test)] mod name;`. Any other condition is refused.
 fn tests(source: &mut Source<'_>, index: usize, _: &Project<'_>) -> Applied {
     if !source.has(index, &["#", "[", "cfg"]) {
@@ -189,11 +175,26 @@ fn writer(source: &mut Source<'_>, index: usize, _: &Project<'_>) -> Applied {
     Ok(None)
 }
 
-/// `fn main`, which becomes `pub(crate) fn main`.
-fn main_function(source: &mut Source<'_>, index: usize, _: &Project<'_>) -> Applied {
-    if !source.has(index, &["fn", "main", "("]) {
+/// Tokens of which one becomes another text, or is left out with those in front of it if that is empty; and its index among them.
+const REPLACED: [(&[&str], usize, &str); 4] = [
+    // Here a call from C is a plain function, which `native/c` exports.
+    (&["extern", "\"C\"", "fn"], 1, ""),
+    // Rust calls a binary's `main` without arguments, so the binary's own `main` calls this one.
+    (&["fn", "main", "("], 0, "pub(crate) fn"),
+    // In the proofs only the enumeration may be named `Type`. Users know this variant as `Type`.
+    (&["TpltParam", "::", "Ty"], 2, "Type"),
+    (&["TpltParam", "{", "Ty"], 2, "Type"),
+];
+
+/// What [`REPLACED`] lists.
+fn replaced(source: &mut Source<'_>, index: usize, _: &Project<'_>) -> Applied {
+    let Some((_, at, text)) = REPLACED.iter().find(|row| source.has(index, row.0)) else {
         return Ok(None);
+    };
+    if text.is_empty() {
+        source.leave_out(index, index + at);
+    } else {
+        source.put(index + at, index + at, *text);
     }
-    source.put(index, index, "pub(crate) fn");
-    Ok(Some(index + 2))
+    Ok(Some(index + at + 1))
 }

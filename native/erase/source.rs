@@ -11,6 +11,13 @@ pub struct Refusal {
     pub why: String,
 }
 
+impl Refusal {
+    fn new(file: &str, text: &str, at: usize, why: impl Into<String>) -> Refusal {
+        let line = 1 + text[..at].matches('\n').count();
+        Refusal { file: file.to_string(), line, why: why.into() }
+    }
+}
+
 impl fmt::Display for Refusal {
     fn fmt(&self, f: &mut fmt::Formatter<'_>) -> fmt::Result {
         write!(f, "{}:{}: {}", self.file, self.line, self.why)
@@ -40,11 +47,7 @@ pub struct Source<'s> {
 impl<'s> Source<'s> {
     /// Reads a source.
     pub fn new(file: &'s str, text: &'s str) -> Result<Source<'s>, Refusal> {
-        let refuse = |at: usize, why: &str| Refusal {
-            file: file.to_string(),
-            line: line_of(text, at),
-            why: why.to_string(),
-        };
+        let refuse = |at: usize, why: &str| Refusal::new(file, text, at, why);
         let all = tokens(text).map_err(|at| refuse(at, "what begins here doesn't end"))?;
         let (comments, tokens): (Vec<_>, Vec<_>) =
             all.into_iter().partition(|token| token.kind == Kind::Comment);
@@ -102,7 +105,7 @@ impl<'s> Source<'s> {
     /// Refuses the construct at an index.
     pub fn refuse(&self, index: usize, why: impl Into<String>) -> Refusal {
         let start = self.tokens.get(index).map_or(self.text.len(), |token| token.start);
-        Refusal { file: self.file.to_string(), line: line_of(self.text, start), why: why.into() }
+        Refusal::new(self.file, self.text, start, why)
     }
 
     /// Replaces the tokens from `first` to `last`.
@@ -169,12 +172,12 @@ impl<'s> Source<'s> {
         let (mut made, mut at) = (String::new(), 0);
         for edit in &self.edits {
             if edit.start < at {
-                let why = "two rules at one place".to_string();
-                return Err(Refusal {
-                    file: self.file.to_string(),
-                    line: line_of(self.text, edit.start),
-                    why,
-                });
+                return Err(Refusal::new(
+                    self.file,
+                    self.text,
+                    edit.start,
+                    "two rules at one place",
+                ));
             }
             made.push_str(&self.text[at..edit.start]);
             made.push_str(&edit.text);
@@ -183,10 +186,6 @@ impl<'s> Source<'s> {
         made.push_str(&self.text[at..]);
         Ok(made)
     }
-}
-
-fn line_of(text: &str, at: usize) -> usize {
-    1 + text[..at].matches('\n').count()
 }
 
 /// For each bracket, the index of its match. Err has the index of a bracket without one.
