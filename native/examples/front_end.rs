@@ -181,26 +181,18 @@ fn show_statements(scope: &mut Scope) {
     let member = |name| Member(Box::new(Name("light")), name);
     let scaled = binary(Multiplication, member("position"), member("intensity"));
     show("let p = light.position * ..intensity", scope.declare("p", None, &scaled));
-    show(
-        "var i = 1 << 3u",
-        scope.declare("i", None, &binary(ShiftLeft, int(1), Literal(LiteralInstance::U32(3)))),
-    );
+    let shifted = binary(ShiftLeft, int(1), Literal(LiteralInstance::U32(3)));
+    show("var i = 1 << 3u", scope.declare("i", None, &shifted));
     let colour = Index(Box::new(member("colours")), Box::new(Name("i")));
     show("var c = light.colours[i].xy", scope.declare("c", None, &Member(Box::new(colour), "xy")));
-    show(
-        "c + vec3(1)",
-        scope.type_of(&binary(Addition, Name("c"), Call("vec3", None, vec![int(1)]))),
-    );
-    show(
-        "c = vec2(i, i)",
-        scope.assign(&Name("c"), &Call("vec2", None, vec![Name("i"), Name("i")])),
-    );
+    let sum = binary(Addition, Name("c"), Call("vec3", None, vec![int(1)]));
+    show("c + vec3(1)", scope.type_of(&sum));
+    let both = Call("vec2", None, vec![Name("i"), Name("i")]);
+    show("c = vec2(i, i)", scope.assign(&Name("c"), &both));
     show("light.intensity = 1", scope.assign(&member("intensity"), &int(1)));
     show("&i", scope.type_of(&Unary(UnaryOperator::AddressOf, Box::new(Name("i")))));
-    show(
-        "clamp(1, light.intensity, 2)",
-        scope.type_of(&Call("clamp", None, vec![int(1), member("intensity"), int(2)])),
-    );
+    let clamped = Call("clamp", None, vec![int(1), member("intensity"), int(2)]);
+    show("clamp(1, light.intensity, 2)", scope.type_of(&clamped));
     show("dot(p, c)", scope.type_of(&Call("dot", None, vec![Name("p"), Name("c")])));
     show("Light(1)", scope.type_of(&Call("Light", None, vec![int(1)])));
     show("p.w", scope.type_of(&Member(Box::new(Name("p")), "w")));
@@ -210,16 +202,14 @@ fn show_statements(scope: &mut Scope) {
 
 fn main() -> Result<(), Error> {
     let light = light()?;
+    let measured = |ty: &Type| (ty.size_of().unwrap_or(0), ty.align_of().unwrap_or(0));
     for member in &light.members {
-        println!(
-            "{:<9} size {:>2}, align {:>2}",
-            member.name,
-            member.ty.size_of().unwrap_or(0),
-            member.ty.align_of().unwrap_or(0)
-        );
+        let (size, align) = measured(&member.ty);
+        println!("{:<9} size {size:>2}, align {align:>2}", member.name);
     }
     let ty = Type::Struct(Box::new(light.clone()));
-    println!("{ty} size {}, align {}", ty.size_of().unwrap_or(0), ty.align_of().unwrap_or(0));
+    let (size, align) = measured(&ty);
+    println!("{ty} size {size}, align {align}");
     let uniform = [
         TpltParam::Enumerant(Enumerant::AddressSpace(AddressSpace::Uniform)),
         TpltParam::Type(ty.clone()),

@@ -21,11 +21,8 @@ fn spelled(ty: Option<Type>) -> String {
 
 #[test]
 fn literals_convert_as_their_types() {
-    for (literal, converts) in
-        [(LiteralInstance::AbstractInt(1), true), (LiteralInstance::I32(1), false)]
-    {
-        assert_eq!(Instance::Literal(literal).is_convertible_to(&Type::F32), converts, "{literal}");
-    }
+    let converts = |literal| Instance::Literal(literal).is_convertible_to(&Type::F32);
+    assert!(converts(LiteralInstance::AbstractInt(1)) && !converts(LiteralInstance::I32(1)));
 }
 
 /// Two values as they are spelled, or `none`.

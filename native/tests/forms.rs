@@ -239,9 +239,10 @@ fn variant(refusal: &Refusal) -> String {
         };
     }
     shown! {
-        Component(t, name) NotIndexable(t) NotInteger(t) NotConstructible(t) NotScalar(t) NotReference(t) NotInSpace(space, t)
-        Initialized(space) AccessMode(space, access) NotCondition(t) NotReturned(expected, t) Conversion(t, to) WriteRefType(t, to)
-        Unary(operator, t) Binary(operator, a, b) ParamCount(name, takes, count) ParamType(expected, t) Builtin(text)
+        Component(t, name) NotIndexable(t) NotInteger(t) NotConstructible(t) NotScalar(t) NotReference(t)
+        NotInSpace(space, t) Initialized(space) AccessMode(space, access) NotCondition(t) NotReturned(expected, t)
+        Conversion(t, to) WriteRefType(t, to) Unary(operator, t) Binary(operator, a, b)
+        ParamCount(name, takes, count) ParamType(expected, t) Builtin(text)
     }
 }
 

@@ -5,7 +5,7 @@ mod tables;
 use std::fmt::{Debug, Display};
 use std::str::FromStr;
 use tables::rows;
-use wgsl_types_proved::builtin::{find_call, is_ctor};
+use wgsl_types_proved::builtin::find_call;
 use wgsl_types_proved::syntax::{
     AccessMode, AddressSpace, AssignmentOperator, BuiltinValue, ConservativeDepth,
     DiagnosticSeverity, Enumerant, InterpolationSampling, InterpolationType, SampledType,
@@ -73,33 +73,20 @@ fn texel_formats_tell_their_channels() {
 
 #[test]
 fn textures_answer_their_queries() {
-    let plain = TextureType::Multisampled2D(SampledType::F32);
-    let arrayed = TextureType::Multisampled2DArray(SampledType::F32);
-    assert_eq!(plain.sampled_type(), None);
-    assert_eq!(arrayed.sampled_type(), Some(SampledType::F32));
-    let sampled = TextureType::Sampled2D(SampledType::I32);
-    assert_eq!(sampled.sampled_type(), Some(SampledType::I32));
+    let sampled_types = [
+        (TextureType::Multisampled2D(SampledType::F32), None),
+        (TextureType::Multisampled2DArray(SampledType::F32), Some(SampledType::F32)),
+        (TextureType::Sampled2D(SampledType::I32), Some(SampledType::I32)),
+    ];
+    for (texture, sampled) in sampled_types {
+        assert_eq!(texture.sampled_type(), sampled, "{texture}");
+    }
     let stored = TextureType::Storage3D(TexelFormat::R32Sint, AccessMode::Read);
-    assert_eq!(stored.dimensions(), TextureDimensions::D3);
-    assert!(!stored.is_arrayed());
+    assert_eq!((stored.dimensions(), stored.is_arrayed()), (TextureDimensions::D3, false));
     assert_eq!(stored.channel_type(), SampledType::I32);
     let lines = TextureType::Sampled1DArray(SampledType::U32);
-    assert_eq!(lines.dimensions(), TextureDimensions::D1);
-    assert!(lines.is_arrayed());
+    assert_eq!((lines.dimensions(), lines.is_arrayed()), (TextureDimensions::D1, true));
     assert!(lines.is_sampled());
-}
-
-#[test]
-fn constructors_are_known_by_their_names() {
-    let names =
-        "array bool i32 u32 f32 f16 i64 u64 f64 vec2 vec3 vec4 mat2x2 mat2x3 mat2x4 mat3x2 \
-        mat3x3 mat3x4 mat4x2 mat4x3 mat4x4";
-    for name in names.split(' ') {
-        assert!(is_ctor(name), "{name}");
-    }
-    for name in ",vec,vec1,vec5,mat1x2,mat5x2,AbstractInt,abs,vec2f,Array,atomic".split(',') {
-        assert!(!is_ctor(name), "{name}");
-    }
 }
 
 #[test]

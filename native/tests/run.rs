@@ -226,14 +226,7 @@ fn input_may_end_after_each_byte() {
 
 #[test]
 fn each_outcome_has_its_status() {
-    let statuses = [
-        (Ok(true), 0),
-        (Ok(false), 2),
-        (Err(RunError::Read), 1),
-        (Err(RunError::Write), 1),
-        (Err(RunError::Memory), 3),
-    ];
-    for (outcome, expected) in statuses {
-        assert_eq!(status(&outcome), expected, "{outcome:?}");
-    }
+    assert_eq!([true, false].map(|is_read| status(&Ok(is_read))), [0, 2]);
+    let errors = [RunError::Read, RunError::Write, RunError::Memory];
+    assert_eq!(errors.map(|error| status(&Err(error))), [1, 1, 3]);
 }

@@ -88,9 +88,7 @@ fn constructors_and_calls() {
         let rest = format!("{name} {} {}", template_words(tplt.as_deref()), spelled.join(" "));
         expect(&format!("ctor {rest}"), or_message(type_ctor(name, tplt.as_deref(), &args)));
         let found = type_builtin_fn(name, tplt.as_deref(), &args);
-        expect(
-            &format!("call {rest}"),
-            or_message(found.map(|ty| ty.map_or("no value".to_string(), |ty| ty.to_string()))),
-        );
+        let found = found.map(|ty| ty.map_or("no value".to_string(), |ty| ty.to_string()));
+        expect(&format!("call {rest}"), or_message(found));
     }
 }

@@ -86,10 +86,8 @@ fn layouts() {
     let placed = |offset, size, align| PlacedMember { offset, size, align };
     let members = vec![placed(0, 4, 4), placed(16, 12, 16), placed(28, 4, 4)];
     assert_eq!(of.layout(), Some(StructLayout { members, size: 32, align: 16 }));
-    assert_eq!(
-        (of.size_of(), of.align_of(), of.offsets()),
-        (Some(32), Some(16), Some(vec![0, 16, 28]))
-    );
+    assert_eq!((of.size_of(), of.align_of()), (Some(32), Some(16)));
+    assert_eq!(of.offsets(), Some(vec![0, 16, 28]));
     let empty = StructType { name: "E".to_string(), members: vec![] };
     assert_eq!((empty.size_of(), empty.align_of(), empty.layout()), (None, Some(0), None));
 }
@@ -123,14 +121,8 @@ fn deeper_types_are_answered() {
 fn names_are_padded() {
     assert_eq!(format!("{:>10}|", AddressSpace::Uniform), "   uniform|");
     assert_eq!(format!("{:*<6}|", AccessMode::Read), "read**|");
-    assert_eq!(
-        format!(
-            "{:.4}|{:^4}|",
-            Enumerant::TexelFormat(TexelFormat::Rgba8Unorm),
-            BinaryOperator::ShiftLeft
-        ),
-        "rgba| << |"
-    );
+    let format = Enumerant::TexelFormat(TexelFormat::Rgba8Unorm);
+    assert_eq!(format!("{format:.4}|{:^4}|", BinaryOperator::ShiftLeft), "rgba| << |");
 }
 
 /// Each method refuses, as `$refused` says of its operator.
