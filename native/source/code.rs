@@ -5,7 +5,7 @@ use crate::proved::wgsl_report::report::{report_on, Format, ReportOptions};
 use crate::proved::wgsl_report::shown::Style;
 use crate::shim::always;
 use crate::shim::std::alloc::Global;
-use alloc::string::String;
+use alloc::string::{String, ToString};
 use alloc::vec::Vec;
 use core::fmt;
 
@@ -33,11 +33,8 @@ pub struct SourceError {
 
 impl fmt::Display for SourceError {
     fn fmt(&self, f: &mut fmt::Formatter<'_>) -> fmt::Result {
-        for (index, error) in self.errors.iter().enumerate() {
-            let line_break = if index == 0 { "" } else { "\n" };
-            write!(f, "{line_break}{error}")?;
-        }
-        Ok(())
+        let lines: Vec<String> = self.errors.iter().map(Message::to_string).collect();
+        f.write_str(&lines.join("\n"))
     }
 }
 
