@@ -113,9 +113,8 @@ fn misspelled_keywords_are_told() {
         assert_eq!(told, (&*word, &*keyword), "{text}");
     }
     let text = "dicsard;";
-    for (from, at, meant) in
-        [(0, 1, Some((0, "discard"))), (0, 9, None), (9, 0, None), (1, 0, None)]
-    {
+    let rows = [(0, 1, Some((0, "discard"))), (0, 9, None), (9, 0, None), (1, 0, None)];
+    for (from, at, meant) in rows {
         let misread = Misread { rule: Rule::Statement, from, at };
         assert_eq!(meant_at(&misread, &tokens(text).unwrap(), text), meant);
     }

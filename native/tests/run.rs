@@ -161,11 +161,8 @@ fn a_run_ends_at_the_write_that_fails() {
 #[test]
 fn short_reads_and_writes_change_nothing() {
     let lines = "binary + i32 i32\n\nno\nbinary + bool i32\nbinary + f32 f32";
-    let output = "i32
-bad line 3
-cannot use binary operator `+` with operands `bool` and `i32`
-f32
-";
+    let refused = "cannot use binary operator `+` with operands `bool` and `i32`";
+    let output = &format!("i32\nbad line 3\n{refused}\nf32\n");
     for (most_read, most_written) in [(WHOLE, WHOLE), (1, WHOLE), (WHOLE, 1), (1, 1), (7, 3)] {
         expect(source(lines, most_read, None), Target::new(most_written), Ok(false), output);
     }

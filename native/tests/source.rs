@@ -114,9 +114,8 @@ fn types_that_cannot_be_given_are_left_out() {
     let named = |text: &str| types(text).into_keys().collect::<Vec<_>>();
     let text = "override N = 2; alias A = array<f32, N>; alias B = f32; alias C = nope;";
     assert_eq!(named(text), ["B"]);
-    let twice =
-        |n| (1..n).map(|at| format!("struct S{at} {{ a: S{0}, b: S{0} }}", at - 1)).collect();
-    let doubled: String = twice(40);
+    let doubled: String =
+        (1..40).map(|at| format!("struct S{at} {{ a: S{0}, b: S{0} }}", at - 1)).collect();
     assert_eq!(named(&format!("struct S0 {{ a: f32 }} {doubled}")).len(), 16);
     let nested: String = (1..600).map(|at| format!("struct S{at} {{ a: S{} }}", at - 1)).collect();
     assert_eq!(named(&format!("struct S0 {{ a: f32 }} {nested}")).len(), 254);

@@ -242,8 +242,7 @@ fn refusals_are_plain_data() {
     let refused = type_builtin_fn("sqrt", None, &[texture]).unwrap_err().to_string();
     let wanted = "no overload of `sqrt` takes (texture_storage_2d<rg11b10ufloat, write>)";
     assert_eq!(refused, wanted);
-    let pointed = Operand::new(Type::F32);
-    assert!(type_unary_op(UnaryOperator::AddressOf, &pointed).is_err());
+    assert!(type_unary_op(UnaryOperator::AddressOf, &Operand::new(Type::F32)).is_err());
 }
 
 #[test]

@@ -58,10 +58,9 @@ fn sizes() {
         let found = format!("{} {}", or_none(ty.size_of()), or_none(ty.align_of()));
         expect(&format!("size {}", words(&ty)), found);
         if let Type::Struct(of) = &ty {
-            let offsets = of.offsets().map(|offsets| {
-                let texts: Vec<String> = offsets.iter().map(u32::to_string).collect();
-                texts.join(" ")
-            });
+            let texts =
+                |all: Vec<u32>| all.iter().map(u32::to_string).collect::<Vec<_>>().join(" ");
+            let offsets = of.offsets().map(texts);
             expect(&format!("offsets {}", words(&ty)), or_none(offsets));
         }
     }

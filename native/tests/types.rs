@@ -71,8 +71,7 @@ fn types_are_taken_apart() {
 
 #[test]
 fn three_types_are_sampled() {
-    let sampled = SampledType::try_from(&Type::U32).map(Type::from);
-    assert_eq!(sampled, Ok(Type::U32));
+    assert_eq!(SampledType::try_from(&Type::U32).map(Type::from), Ok(Type::U32));
     let refused = SampledType::try_from(&Type::F16).unwrap_err();
     let message = "invalid sampled type, expected `i32`, `u32` or `f32`, got `f16`";
     assert_eq!(refused.to_string(), message);

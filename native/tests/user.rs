@@ -66,10 +66,8 @@ fn values_of_a_program_convert_by_its_own_rule() {
     let vector = Typed(Type::vector(2, AbstractInt), 3);
     assert_eq!(vector.inner_ty(), vector.0);
     assert_eq!(convert_inner(&vector, &Type::vector(2, F32)), None);
-    assert_eq!(
-        convert_inner(&whole, &Type::vector(2, U32)),
-        Some((Typed(U32, 1), Type::vector(2, U32)))
-    );
+    let other = Type::vector(2, U32);
+    assert_eq!(convert_inner(&whole, &other), Some((Typed(U32, 1), other)));
     assert_eq!(convert_all_inner_to(&[whole], &U32), Some(vec![Typed(U32, 1)]));
 }
 

@@ -38,14 +38,6 @@ fn requests_are_answered() {
     expect_answers("tests/lines/standard", standard_answer);
 }
 
-fn vec2(of: Type) -> Type {
-    Type::vector(2, of)
-}
-
-fn vec3(of: Type) -> Type {
-    Type::vector(3, of)
-}
-
 fn reference(space: AddressSpace, of: Type) -> Type {
     Type::Ref(space, Box::new(of), AccessMode::Read)
 }
@@ -69,6 +61,7 @@ fn pointers() {
 
 #[test]
 fn result_structs() {
+    let vec2 = |of| Type::vector(2, of);
     let result = type_builtin_fn("frexp", None, &[vec2(F32)]).unwrap().unwrap().unwrap_struct();
     let members = [("fract", vec2(F32)), ("exp", vec2(I32))];
     assert_eq!(*result, StructType::new("__frexp_result_vec2_f32", members));
@@ -82,7 +75,7 @@ fn constructors_that_nothing_is() {
 
 #[test]
 fn layouts() {
-    let of = StructType::new("S", [("a", F32), ("b", vec3(F32)), ("c", F32)]);
+    let of = StructType::new("S", [("a", F32), ("b", Type::vector(3, F32)), ("c", F32)]);
     let placed = |offset, size, align| PlacedMember { offset, size, align };
     let members = vec![placed(0, 4, 4), placed(16, 12, 16), placed(28, 4, 4)];
     assert_eq!(of.layout(), Some(StructLayout { members, size: 32, align: 16 }));
