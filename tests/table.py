@@ -1,8 +1,10 @@
 """Reads the tables of facts, for the programs in tests."""
+import glob
 import os
 import re
 
-HERE = os.path.dirname(os.path.realpath(__file__))
+from programs import TESTS
+
 ESCAPES = {b"n": b"\n", b"t": b"\t", b"r": b"\r", b"\\": b"\\"}
 
 
@@ -22,8 +24,8 @@ def cell(text):
 def rows(path, *kind):
     """The rows of a table, or those that begin with a kind, without it. Lines that begin with `# ` say what the rows below have
     in common."""
-    with open(os.path.join(HERE, path), "rb") as file:
-        cells = [tuple(map(cell, line.rstrip(b"\n").split(b"\t"))) for line in file if not line.startswith(b"# ")]
+    with open(os.path.join(TESTS, path), "rb") as file:
+        cells = [tuple(map(cell, line.rstrip(b"\n").split(b"\t"))) for line in file if not line.startswith((b"# ", b"#\n"))]
     kind = tuple(name.encode() for name in kind)
     found = [row[len(kind) :] for row in cells if row[: len(kind)] == kind]
     assert found, f"{path} has no rows {kind}"
@@ -33,3 +35,15 @@ def rows(path, *kind):
 def texts(path, *kind):
     """The same, whose cells are texts."""
     return [tuple(each.decode() for each in row) for row in rows(path, *kind)]
+
+
+def listed(path, *kind):
+    """The cells of these rows, one after another."""
+    return [each for row in texts(path, *kind) for each in row]
+
+
+def requests(*folder):
+    """The requests of tests/lines, or of a folder of it, with their answers."""
+    for name in sorted(glob.glob(os.path.join(TESTS, "lines", *folder, "*.txt"))):
+        with open(name, encoding="utf-8") as file:
+            yield from (line[:-1].split(" => ") for line in file if " => " in line)

@@ -5,7 +5,7 @@ A question is how its line begins, as `call min -`, and the types of its operand
 import itertools
 import random
 
-from resources import resource_questions
+from differing.resources import resource_questions
 from types_in_words import SCALARS
 
 CONCRETE = [scalar for scalar in SCALARS if not scalar.startswith("Abstract")]

@@ -1,7 +1,7 @@
 """The rows of docs/DIFFERENCES.md that say where the answers differ from WGSL's."""
 import re
 
-from sources import read
+from programs import read
 
 NARROWER = "Where the table is narrower than WGSL's overloads"
 KEPT = "Kept from the crate, though WGSL says otherwise"

@@ -2,7 +2,7 @@
 import os
 import re
 
-from sources import TOP, read
+from programs import TOP, read
 
 PAGES = ("README.md", "CHANGELOG.md", "CONTRIBUTING.md") + tuple(
     os.path.join("docs", name) for name in sorted(os.listdir(os.path.join(TOP, "docs"))) if name.endswith(".md")

@@ -2,7 +2,7 @@
 import os
 import re
 
-from sources import TOP, read
+from programs import TOP, read
 
 TITLE = "\n## Where to add a rule\n"
 HEADING = re.compile(r"(###+) (.*)")

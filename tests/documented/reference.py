@@ -1,13 +1,14 @@
-#!/usr/bin/env python3
+#!/usr/bin/env -S python3 -B
 """Writes docs/REFERENCE.md from the sources: what users can name, with its comment and its clauses, and the definitions that the
 clauses cite, with theirs. tests/documents compares the document with what this makes."""
 import os
 import re
 import sys
 
-sys.dont_write_bytecode = True
-from sources import EXPORT, FACADE, FUNCTION, OWNER, PROMISING, TOP  # noqa: E402, beside this program
-from sources import files_of, folder_of, listed, owned_lines, public_modules, reachable, read  # noqa: E402
+sys.path.insert(1, os.path.dirname(os.path.dirname(os.path.abspath(__file__))))
+from documented.sources import EXPORT, FACADE, FUNCTION, OWNER, PROMISING  # noqa: E402, beside tests/documents
+from documented.sources import files_of, folder_of, listed, owned_lines, public_modules, reachable  # noqa: E402
+from programs import TOP, read, write  # noqa: E402
 
 PAGE = os.path.join("docs", "REFERENCE.md")
 ITEM = re.compile(r"^\s*pub (?:const )?(struct|enum|trait|const|static|type) (\w+)")
@@ -213,5 +214,4 @@ def compare_reference():
 
 
 if __name__ == "__main__":
-    with open(os.path.join(TOP, PAGE), "w", encoding="utf-8") as page:
-        page.write(made())
+    write(made(), TOP, PAGE)

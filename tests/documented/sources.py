@@ -2,18 +2,14 @@
 import os
 import re
 
-TOP = os.path.dirname(os.path.dirname(os.path.dirname(os.path.abspath(__file__))))
+from programs import TOP, read
+
 FUNCTION = re.compile(r'^\s*(?:(pub)\s+|pub\(\w+\)\s+)?(?:const\s+)?(?:extern "C"\s+)?fn\s+(\w+)')
 FOR_C = re.compile(r'^pub extern "C" fn (\w+)', re.MULTILINE)
 OWNER = re.compile(r"^(?:impl(?:<[^>]*>)?|pub trait)\s+(.*?)\s*\{?$")
 TYPE = re.compile(r"^pub (?:struct|enum|trait) (\w+)", re.MULTILINE)
 EXPORT = re.compile(r"^pub use ([\w:]+?)(?:::\{([^}]*)\})?(?: as \w+)?;", re.MULTILINE)
 FACADE, FOR_CALLERS_IN_C = "wgsl_types", "wgsl_c"
-
-
-def read(*path):
-    with open(os.path.join(TOP, *path), encoding="utf-8") as file:
-        return file.read()
 
 
 # The crates, each after those that it stands on.

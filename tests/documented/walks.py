@@ -1,11 +1,11 @@
 """Compares docs/MAP.md with the sources, and its walks with what callgrind sees the built program enter."""
 import os
 import re
-import shutil
 import subprocess
 import tempfile
 
-from sources import PROMISING, TOP, files_of, functions, read
+from documented.sources import PROMISING, files_of, functions
+from programs import TOP, are_there, read
 
 BUILT = os.path.join(TOP, "crates", "wgsl_check", "out", "wgsl_check")
 NAMED = re.compile(r"`([\w./-]+\.(?:rt|antt|md|c|h|py|rs|txt))`")
@@ -131,7 +131,4 @@ def compare_walks():
         return faults
     if not os.path.exists(BUILT):
         return [f"the walks in MAP.md are not compared with the program: there is no {BUILT}"]
-    if not shutil.which("valgrind"):
-        print("documents: the walks in MAP.md are not compared with the program: there is no valgrind")
-        return []
-    return compare_with_program(walks)
+    return compare_with_program(walks) if are_there("valgrind") else []

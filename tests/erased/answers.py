@@ -3,10 +3,12 @@ import glob
 import os
 import re
 
-from check_forms import questions as form_questions
-from random_lines import broken_requests, random_lines
-from random_requests import random_requests
-from tools import TESTS, TOP, answers_of, cargo, fail
+from erased.random_lines import broken_requests, random_lines
+from erased.tools import answers_of, cargo
+from forms.check_forms import questions as form_questions
+from forms.random_requests import random_requests
+from programs import TESTS, TOP, fail
+from table import requests
 
 LINES = 300_000
 FORMS = 30_000
@@ -35,13 +37,6 @@ def build_proved():
             fail(f"./{name} wasn't built")
 
 
-def rows():
-    """The requests of tests/lines."""
-    for path in sorted(glob.glob(os.path.join(TESTS, "lines", "**", "*.txt"), recursive=True)):
-        with open(path, encoding="utf-8") as file:
-            yield from (line.split(" => ")[0] for line in file if line.strip() and not line.startswith("#"))
-
-
 def compare_arguments(native):
     """What programs make of arguments: their version, and the statuses of help and of wrong use."""
     for name in ("wgsl_check", "wgsl"):
@@ -53,7 +48,7 @@ def compare_arguments(native):
 
 
 def questions():
-    asked = list(rows())
+    asked = [request for folder in ([], ["standard"]) for request, *_ in requests(*folder)]
     names = sorted({row.split()[1] for row in asked if re.match(r"(call|ctor) \S", row)})
     forms = random_requests(FORMS)
     in_wgsl = [request for request, _ in form_questions()] + forms + broken_requests(forms)

@@ -6,8 +6,8 @@ import re
 import subprocess
 import tarfile
 
-from tools import TOP, cargo, fail, read
-
+from erased.tools import cargo
+from programs import TOP, ask, end, fail, read, write
 
 MANIFEST = """[package]
 name = "user"
@@ -33,7 +33,7 @@ def check_crate(folder):
         if subprocess.run(["cargo", tool, "--version"], capture_output=True).returncode != 0:
             print(f"skipped: `cargo {tool}`, which isn't there")
         elif tool == "fmt":
-            is_formatted()
+            end("cargo", "fmt", "--check", where=TOP)
         else:
             cargo(folder, tool, *words)
             print("clippy has no warnings")
@@ -75,20 +75,12 @@ def has_no_unsafe_code():
         fail("native/lib.rs doesn't forbid unsafe code")
 
 
-def is_formatted():
-    done = subprocess.run(["cargo", "fmt", "--check"], cwd=TOP, capture_output=True, text=True)
-    if done.returncode != 0:
-        fail(f"what is written by hand isn't formatted:\n{done.stdout}")
-
-
 def run_user(folder, name, dependency, program):
     """What a user's program prints."""
     user = os.path.join(folder, name)
     os.makedirs(os.path.join(user, "src"))
-    with open(os.path.join(user, "Cargo.toml"), "w", encoding="utf-8") as file:
-        file.write(MANIFEST.format(dependency=dependency))
-    with open(os.path.join(user, "src", "main.rs"), "w", encoding="utf-8") as file:
-        file.write(program)
+    write(MANIFEST.format(dependency=dependency), user, "Cargo.toml")
+    write(program, user, "src", "main.rs")
     return cargo(folder, "run", "--quiet", top=user)
 
 
@@ -112,7 +104,7 @@ def check_package(folder):
     settings = {"CARGO_TARGET_DIR": os.path.join(folder, "from_package")}
     cargo(folder, "build", "--quiet", top=top, **settings)
     program = os.path.join(folder, "from_package", "debug", "wgsl_check")
-    answer = subprocess.run([program], input="binary + AbstractInt vec 3 f32\n", capture_output=True, text=True)
-    if answer.stdout != "vec3<f32>\n":
-        fail(f"the program that was built from the package printed {answer.stdout!r}")
+    answers = ask([program], ["binary + AbstractInt vec 3 f32"])
+    if answers != ["vec3<f32>"]:
+        fail(f"the program that was built from the package printed {answers}")
     print(f"{os.path.basename(package)} is built from itself alone, {os.path.getsize(package) // 1024} KiB")

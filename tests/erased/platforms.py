@@ -3,8 +3,8 @@ import os
 import shutil
 import subprocess
 
-from answers import PROGRAMS, compare, questions
-from tools import answers_of, cargo
+from erased.answers import PROGRAMS, compare, questions
+from erased.tools import answers_of, cargo
 
 TARGETS = {  # and what runs their programs; None: the library is built, and nothing is run
     "aarch64-unknown-linux-gnu": "qemu-aarch64",

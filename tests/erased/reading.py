@@ -2,8 +2,9 @@
 import os
 import random
 
-from compare import changed, sources, written_out
-from tools import TOP, fail, made_by_build_script
+from erased.compare import changed, sources, written_out
+from erased.tools import made_by_build_script
+from programs import TOP, fail
 
 CHANGES = 1000
 

@@ -2,27 +2,16 @@
 import json
 import os
 import subprocess
-import sys
 
-TOP = os.path.realpath(os.path.join(os.path.dirname(os.path.abspath(__file__)), "..", ".."))
-TESTS = os.path.join(TOP, "tests")
-
-
-def fail(why):
-    sys.exit(f"tests/native: {why}")
-
-
-def read(*path):
-    with open(os.path.join(TOP, *path), encoding="utf-8") as file:
-        return file.read()
+from programs import TOP, end, fail
 
 
 def cargo(folder, *words, top=TOP, may_warn=True, **settings):
     """What a command of cargo prints. What it makes goes into a folder. It has no network."""
-    environment = {**os.environ, "CARGO_TARGET_DIR": os.path.join(folder, "target"), "CARGO_TERM_COLOR": "never", **settings}
-    done = subprocess.run(["cargo", words[0], "--offline", *words[1:]], cwd=top, env=environment, capture_output=True, text=True)
-    if done.returncode != 0 or not may_warn and "warning" in done.stderr:
-        fail(f"`cargo {' '.join(words)}` with status {done.returncode}:\n{done.stdout[-4000:]}{done.stderr[-4000:]}")
+    environment = {"CARGO_TARGET_DIR": os.path.join(folder, "target"), "CARGO_TERM_COLOR": "never", **settings}
+    done = end("cargo", words[0], "--offline", *words[1:], where=top, **environment)
+    if not may_warn and "warning" in done.stderr:
+        fail(f"`cargo {' '.join(words)}` warns:\n{done.stderr[-4000:]}")
     return done.stdout
 
 

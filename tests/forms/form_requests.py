@@ -1,12 +1,12 @@
 """What the rules answer to a request in WGSL. Its expressions, whose operands are types, are read as in tests/expression."""
 from collections import namedtuple
 
-from grammar import Reader
-from kinds import element_of, is_abstract
-from rules import Refused
-from runtime_layouts import ATTRIBUTES, layout
+from expression.grammar import Reader
+from forms import rules
+from forms.kinds import element_of, is_abstract
+from forms.rules import Refused
+from forms.runtime_layouts import ATTRIBUTES, layout
 from spelling import STRUCTS, split_list
-import rules
 
 SIGNS = set("+-*/%&|^<>") | {"<<", "--"}  # what stands in front of the `=` of an assignment
 # A type, and whether the request says `const` in front of it.

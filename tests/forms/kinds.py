@@ -1,7 +1,7 @@
 """Kinds of types, and which converts to which."""
 import re
 
-from search import RANKS
+from overloads.search import RANKS
 from spelling import OWN_SCALARS, SCALARS, STRUCTS, parts_of
 
 CONCRETE = {"AbstractInt": "i32", "AbstractFloat": "f32"}

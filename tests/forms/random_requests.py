@@ -2,9 +2,9 @@
 import random
 import re
 
-from form_requests import Operand
-from kinds import concrete, element_of, is_abstract, is_constructible, is_matrix, is_vector, with_element
-from rules import behind, default_access, has_fixed_footprint, is_host_shareable, is_reference
+from forms.form_requests import Operand
+from forms.kinds import concrete, element_of, is_abstract, is_constructible, is_matrix, is_vector, with_element
+from forms.rules import behind, default_access, has_fixed_footprint, is_host_shareable, is_reference
 from spelling import OWN_SCALARS, SCALARS, STRUCTS, declarations
 
 SPACES = "function private workgroup uniform storage immediate handle".split()

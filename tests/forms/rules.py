@@ -4,10 +4,10 @@ Types are spelled as in WGSL. A function has the rule of one form: it returns a 
 """
 import functools
 
-from facts import read_facts
-from kinds import can_be_named_value, common_type, concrete, contains, converts, element_of, is_abstract, is_array, is_atomic
-from kinds import is_binding_array, is_constructible, is_handle, is_matrix, is_pointer, is_runtime_sized, is_vector
-from search import Search
+from forms.kinds import can_be_named_value, common_type, concrete, contains, converts, element_of, is_abstract, is_array, is_atomic
+from forms.kinds import is_binding_array, is_constructible, is_handle, is_matrix, is_pointer, is_runtime_sized, is_vector
+from overloads.facts import read_facts
+from overloads.search import Search
 from spelling import OWN_SCALARS, SCALARS, STRUCTS, parts_of
 
 

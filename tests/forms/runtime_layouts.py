@@ -1,8 +1,8 @@
 """Layouts of structs that end in a runtime-sized array, which counts as one element."""
 import math
 
-from kinds import contains, element_of, is_matrix, is_runtime_sized, is_vector
-from rules import without_runtime_sized_end
+from forms.kinds import contains, element_of, is_matrix, is_runtime_sized, is_vector
+from forms.rules import without_runtime_sized_end
 from spelling import STRUCTS, parts_of
 
 # The attributes `size` and `align` of members, by the names of struct and member.

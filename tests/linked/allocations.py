@@ -5,14 +5,9 @@ takes one, and so does an answer that is one word or has at most 8 bytes. Other 
 has three lists, the types, the types on their lines and copies of them, and if they convert a fourth, of the results.
 
 By WGSL's own rules a request takes as many as one of the same form with `f32` for each scalar and `vec2f` for each vector."""
-import os
 import random
-import sys
 
-from tools import TOP
-
-sys.path[1:1] = [os.path.join(TOP, "tests")]
-from spelling import SCALARS  # noqa: E402, beside the programs
+from spelling import SCALARS
 
 CONSTRUCTORS = "bool i32 u32 f32 f16 vec2 vec3 vec4".split()
 FUNCTIONS = """abs all any atan2 clamp countOneBits cross distance dot extractBits fma insertBits length max min mix

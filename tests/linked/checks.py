@@ -2,18 +2,15 @@
 import glob
 import os
 import re
-import sys
 
-import allocations
-import source_calls
-import standard_calls
-import sweeps
-from library import RULED_OUT, Library
-from python_module import check_python, check_python_folders
-from source_calls import check_source
-from statuses import check_statuses
-from tools import BINDINGS, LINKED, TOP, WARNINGS, answers_and_notes, compare, compare_both, compile_c, compile_cpp, expect_shown
-from tools import is_there, run, write_shown
+from linked import allocations, source_calls, standard_calls, sweeps
+from linked.deepest import check_stack
+from linked.library import RULED_OUT, Library
+from linked.python_module import check_python, check_python_folders
+from linked.statuses import check_statuses
+from linked.tools import LINKED, WARNINGS, answers_and_notes, compare_both, compile_c, compile_cpp, expect_shown, write_shown
+from programs import ASK, BINDINGS, CHECK, TOP, are_there, fail, read, run
+from table import requests as listed
 
 # How many calls by WGSL's own rules are asked, and short requests whose allocations are counted.
 CALLED, COUNTED = 150, 1500
@@ -23,18 +20,9 @@ CALLS = """wgsl_answer wgsl_explain wgsl_module_check wgsl_source_code wgsl_sour
 wgsl_version""".split()
 
 
-def lines_of(*folders):
-    """The requests of the files in a folder."""
-    lines = []
-    for path in sorted(glob.glob(os.path.join(TOP, "tests", *folders, "*.txt"))):
-        with open(path, encoding="utf-8") as file:
-            lines += [line.split(" => ")[0] for line in file if " => " in line]
-    return lines
-
-
 def requests():
     """The requests of tests/lines, some that can't be read or only by WGSL's own rules, and a long answer."""
-    lines = lines_of("lines") + ["unary - const f32", "overloads cross", "why -f32"]
+    lines = [request for request, *_ in listed()] + ["unary - const f32", "overloads cross", "why -f32"]
     lines += ["", " \t\r", "\0", " \0 ", "foo", "binary + i32", "unary - " + "atomic " * 500 + "f32"]
     lines += ["\v", " \f\u0085", "\u3000 ", "\x1c", "rank\rf32\r\tf32"]
     lines += ["size struct a\0b 1 x - - f32", "layout struct S\0 2 \0 - - f32 a\0\0b - - vec 3 f32", "call a\0 - f32"]
@@ -44,14 +32,14 @@ def requests():
 
 def standard_requests():
     """The same by WGSL's own rules, with some calls of tests/standard, and all lists of overloads."""
-    lines = lines_of("lines", "standard") + standard_calls.requests(CALLED)
+    lines = [request for request, *_ in listed("standard")] + standard_calls.requests(CALLED)
     lines += ["", " \t\r", "\v", "size\rf32", "\0", "foo", "why", "type -" + "array<" * 250 + "f32" + ">" * 250, " " * 4096, " " * 4097]
     return [line.encode() for line in lines] + [b"overloads \xff", b"type -f32\r"]
 
 
 def names_in(*command):
     """The names that a library lets be seen from outside."""
-    listed = run("nm", "--defined-only", "--extern-only", *command).decode()
+    listed = run("nm", "--defined-only", "--extern-only", *command)
     return sorted(line.split()[-1] for line in listed.splitlines() if " " in line)
 
 
@@ -60,35 +48,30 @@ def check_symbols(folder):
     static, shared = (os.path.join(folder, name) for name in ("libwgsl.a", "libwgsl.so"))
     for names in (names_in(static), names_in("-D", shared)):
         if names != CALLS:
-            sys.exit(f"link: the library has the names {names}")
-    symbols = [line.split() for line in run("nm", static).decode().splitlines()]
+            fail(f"the library has the names {names}")
+    symbols = [line.split() for line in run("nm", static).splitlines()]
     writable = [words[-1] for words in symbols if len(words) == 3 and words[1] in "BbCDdGgSsu"]
     if writable != ["nothing"]:
-        sys.exit(f"link: libwgsl.a has writable symbols: {writable}")
-    sizes = run("size", "-t", static).decode().splitlines()
+        fail(f"libwgsl.a has writable symbols: {writable}")
+    sizes = run("size", "-t", static).splitlines()
     print(f"link: {len(CALLS)} symbols are seen, one byte is writable, {sizes[-1].split()[0]} bytes are code and constants")
-
-
-def version_in(form, *path):
-    with open(os.path.join(TOP, *path), encoding="utf-8") as file:
-        return re.search(form, file.read(), re.MULTILINE).group(1)
 
 
 def check_version(folder):
     """All versions are one. A program that has the toolchain's names links with either library, and finds the shared one."""
-    version = version_in(r"^(.*)$", "VERSION")
-    others = [version_in(r'^VERSION = "(.*)"$', "bindings", "python", "wgsl", "_library.py")]
+    version = read("VERSION").strip()
+    others = re.findall(r'^VERSION = "(.*)"$', read("bindings/python/wgsl/_library.py"), re.MULTILINE)
     source = os.path.join(LINKED, "beside.c")
     built = os.path.join(folder, "beside_shared")
     run("cc", *WARNINGS, "-I", folder, "-o", built, source, "-L", folder, "-lwgsl")
     printed = run(compile_c(folder, source, "beside")) + run(built, LD_LIBRARY_PATH=folder)
-    others += printed.decode().split()
+    others += printed.split()
     if others != [version] * 5:
-        sys.exit(f"link: the versions are {version} and {others}")
+        fail(f"the versions are {version} and {others}")
     major, minor, _ = version.split(".")
     needed = f"libwgsl.so.{f'0.{minor}' if major == '0' else major}"
-    if needed not in run("readelf", "-d", built).decode():
-        sys.exit(f"link: a program with the shared library doesn't need {needed}")
+    if needed not in run("readelf", "-d", built):
+        fail(f"a program with the shared library doesn't need {needed}")
     print(f"link: the version is {version}, and a program that has `rattle_alloc` itself links and finds {needed}")
 
 
@@ -96,7 +79,7 @@ def check_c(folder, asked, swept, wanted):
     """The example over lines, without a leak, and the program of docs/USING.md."""
     lines = compile_c(folder, os.path.join(BINDINGS, "c", "lines.c"), "lines")
     compare_both("C", wanted, answers_and_notes(lines, asked=swept))
-    if is_there("valgrind"):
+    if are_there("valgrind"):
         run(*VALGRIND, lines, asked=asked, statuses=(2,))
         print("link: C leaks nothing, says valgrind")
     shown = write_shown("c", os.path.join(folder, "shown.c"))
@@ -105,7 +88,7 @@ def check_c(folder, asked, swept, wanted):
 
 def check_cpp(folder, swept, wanted, standard_swept, standard_wanted):
     """A program over lines by either set of rules, and the JSON of modules."""
-    if not is_there("c++"):
+    if not are_there("c++"):
         return
     lines = compile_cpp(folder, os.path.join(LINKED, "lines.cpp"), "lines_cpp")
     compare_both("C++", wanted, answers_and_notes(lines, asked=swept))
@@ -114,7 +97,7 @@ def check_cpp(folder, swept, wanted, standard_swept, standard_wanted):
     for text in source_calls.texts():
         for call in source_calls.JSON:
             if run(layout, call, asked=text) != source_calls.program_json(text, call):
-                sys.exit(f"link: {call} of {text[:200]} in C++ writes something else than the program")
+                fail(f"{call} of {text[:200]} in C++ writes something else than the program")
     print(f"link: C++ writes the layouts and the check of {len(source_calls.texts())} modules")
 
 
@@ -125,16 +108,6 @@ def lines_for_c(asked, standard):
     texts += [b"%s %s" % (name, module) for name in (b"source_layout", b"module_check") for module in source_calls.modules()]
     texts += [b"module_check " + text for text, *_ in source_calls.CHECKED]
     return b"\n".join(texts) + b"\n"
-
-
-def run_linked(folder, asked):
-    """Rooms and threads, and the stack."""
-    for name in ("rooms", "threads"):
-        printed = run(compile_c(folder, os.path.join(LINKED, name + ".c"), name), asked=asked)
-        print(f"link: {name}: {printed.decode().strip()}")
-    for name in ("stack", "stack_source"):
-        printed = run(compile_c(folder, os.path.join(LINKED, name + ".c"), name))
-        print(f"link: {name}: {printed.decode().strip()}")
 
 
 def check_memory(folder, library, asked):
@@ -154,7 +127,7 @@ def count_short(program, short):
     for question, wanted in short:
         wanted = known.get(wanted, wanted)
         if known[question] != wanted:
-            sys.exit(f"link: {question} allocates {known[question]} times, not {wanted}")
+            fail(f"{question} allocates {known[question]} times, not {wanted}")
     return counts
 
 
@@ -177,21 +150,21 @@ def check_ruled_out(library, name, lines):
     for line in lines:
         status, text = library.ask(name, line)
         if status <= RULED_OUT and (status == RULED_OUT) != text.decode().startswith(refusals):
-            sys.exit(f"link: {name} {line[:1000]} has the status {status}, and writes {text[:1000]}")
+            fail(f"{name} {line[:1000]} has the status {status}, and writes {text[:1000]}")
         count += status == RULED_OUT
     print(f"link: {name} rules {count} of {len(lines)} requests out")
 
 
 def check_standard_text(library, swept):
     """Texts are answered by WGSL's own rules, and explained, as the program prints them. Returns what it prints."""
-    wanted = answers_and_notes(os.path.join(TOP, "wgsl"), "ask", asked=swept)
+    wanted = answers_and_notes(*ASK, asked=swept)
     printed, notes = [], []
     for number, line in enumerate(swept.split(b"\n")[:-1], 1):
         text, why = library.text("standard_answer", line), library.text("standard_explain", line)
         if why == "no words":
             continue
         if (text is None) == (why is None):
-            sys.exit(f"link: {line[:1000]} is answered by {text}, and explained by {why}")
+            fail(f"{line[:1000]} is answered by {text}, and explained by {why}")
         printed.append(f"{text}\n" if why is None else f"bad line {number}\n")
         notes += [] if why is None else [f"line {number}: {why}\n"]
     compare_both("the library, by WGSL's own rules", wanted, ("".join(printed).encode(), "".join(notes).encode()))
@@ -202,7 +175,7 @@ def check_headers(folder):
     """Each header alone and twice, as C and C++ of old standards. Two files that include it link; no `Result` is a bool by itself."""
     strict = [*WARNINGS, "-pedantic", "-Wconversion", "-Wsign-conversion", "-I", os.path.join(BINDINGS, "c"), "-fsyntax-only"]
     languages = [["cc", "-x", "c", "-std=c99"]]
-    if is_there("c++"):
+    if are_there("c++"):
         languages.append(["c++", "-x", "c++", "-std=c++11", "-Wold-style-cast"])
         cpp, built = ["c++", "-x", "c++", "-std=c++17", "-I", os.path.join(BINDINGS, "cpp")], os.path.join(folder, "header.o")
         asked = b'#include "wgsl.hpp"\n' * 2 + b"static_assert(!std::is_convertible<wgsl::Result, bool>::value, \"\");\n"
@@ -221,16 +194,19 @@ def check_library(top, folder, asked, standard):
     """A library answers as the programs do, from each language."""
     swept = lines(asked + [request.encode() for request in sweeps.requests("words")])
     standard_swept = lines(standard + [request.encode() for request in sweeps.requests("wgsl")])
-    wanted = answers_and_notes(os.path.join(TOP, "wgsl_check"), asked=swept)
+    wanted = answers_and_notes(*CHECK, asked=swept)
     library = Library(folder)
-    check_source(library)
+    source_calls.check_source(library)
     print(f"link: {sweeps.compare_source(library)} texts of WGSL with long names, lists and lines have layouts")
     check_c(folder, lines(asked), swept, wanted)
     standard_wanted = check_standard_text(library, standard_swept)
     check_ruled_out(library, "answer", asked)
     check_ruled_out(library, "standard_answer", standard)
     check_cpp(folder, swept, wanted, standard_swept, standard_wanted)
-    run_linked(folder, lines_for_c(asked, standard))
+    for name in ("rooms", "threads"):
+        printed = run(compile_c(folder, os.path.join(LINKED, name + ".c"), name), asked=lines_for_c(asked, standard))
+        print(f"link: {name}: {printed.decode().strip()}")
+    check_stack(folder)
     check_python(top, folder, swept, wanted, standard_swept, standard_wanted)
     return library
 

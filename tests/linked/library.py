@@ -1,7 +1,8 @@
 """The library that is linked, asked by ctypes."""
 import ctypes
 import os
-import sys
+
+from programs import fail
 
 CALLS = "answer explain standard_answer standard_explain source_layout module_check".split()
 BYTE = ctypes.c_uint8
@@ -35,7 +36,7 @@ class Library:
         reply = bytes(self.room[:count])
         ctypes.memset(self.room, FILL, count)
         if self.room[count] != FILL or self.room[ROOM - 1] != FILL:
-            sys.exit(f"link: {name} {asked[:1000]} writes more than its reply")
+            fail(f"{name} {asked[:1000]} writes more than its reply")
         return status, reply
 
     def text(self, name, asked):

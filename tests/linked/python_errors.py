@@ -1,49 +1,30 @@
-"""What the calls of the Python package say of arguments that they don't take, of what the rules refuse, and of faults of a shader."""
+"""What the calls of the Python package say of arguments, of those that they don't take, of what the rules refuse, and of faults
+of a shader."""
 import ast
-import os
 import pickle
 import re
-import sys
 import traceback
 
 import wgsl
-
-sys.path.insert(1, os.path.dirname(os.path.dirname(os.path.abspath(__file__))))
-from table import texts  # noqa: E402, beside tests/link
+from linked.python_raised import expect, raised
+from table import listed, texts
 
 # Half of a surrogate pair, which no table can have.
-HALF = ("binary", ("+", "f32", "\ud800"), "right", "type \ud800")
-
-
-def expect(condition, what):
-    if not condition:
-        raise SystemExit(f"link: in Python {what}")
-
-
-def raised(kind, ask, given):
-    """What a call raises, which is of that kind."""
-    try:
-        found = ask(*given)
-    except Exception as error:
-        expect(type(error) is kind, f"{ask.__name__}{given!r:.90} raises {error!r:.200}")
-        return error
-    return expect(False, f"{ask.__name__}{given!r:.90} is {found!r:.90}")
+HALF = (wgsl.binary, ("+", "f32", "\ud800"), "right", "type \ud800")
 
 
 def rows(kind):
-    """The rows of a kind: the name of a call, its arguments, and what is told of these."""
-    return [(name, ast.literal_eval(given), *told) for name, given, *told in texts("tables/python.tsv", kind)]
+    """The rows of a kind: a call, its arguments, and what is told of these."""
+    return [(getattr(wgsl, name), ast.literal_eval(given), *told) for name, given, *told in texts("tables/python.tsv", kind)]
 
 
 def check_arguments():
     """What is no argument is told by its name."""
     wrong_types, misread = rows("type"), [*rows("misread"), HALF]
-    for name, given, message in wrong_types:
-        ask = getattr(wgsl, name)
+    for ask, given, message in wrong_types:
         error = raised(TypeError, ask, given)
         expect(str(error) == message, f"{ask.__name__}{given!r} raises {error!r}, not {message!r}")
-    for name, given, argument, request in misread:
-        ask = getattr(wgsl, name)
+    for ask, given, argument, request in misread:
         error = raised(wgsl.Unreadable, ask, given)
         why = re.sub(r"^column \d+: ", "", str(raised(wgsl.Unreadable, wgsl.answer, (request,))))
         expect(str(error) == f"{argument}: {why}", f"{ask.__name__}{given!r:.90} raises {error!r:.200}, not {argument}: {why}")
@@ -61,12 +42,8 @@ def check_operands():
     for blank in "\t\n\v\f\r \x85\u200e\u200f\u2028\u2029":
         size = wgsl.size("".join(f"{blank}{token}" for token in ("array", "<", "vec3f", ",", "4", ">", "")))
         expect(size == (64, 16), f"with {blank!r} between tokens a size is {size}")
-    found = wgsl.binary("*", " const vec3f\n", "const\t f32 "), wgsl.call("max", ["1h", "2"]), wgsl.binary("<<", "1", "const u32")
-    expect(found == ("vec3<f32>", "f16", "AbstractInt"), f"operands make {found}")
-    found = wgsl.binary("*", "mat3x3f + mat3x3f", "vec3f - vec3(1, 2, 3)"), wgsl.unary("-", "vec2(f32, 1).yx"), wgsl.call("max", ["(1)", "(u32)"])
-    expect(found == ("vec3<f32>", "vec2<f32>", "u32"), f"expressions make {found}")
-    found = wgsl.construct("array", ["1", "2u"]), wgsl.construct("vec3", ["vec2f(1, 2)", "1"]), wgsl.size("struct S { a: vec3f }")
-    expect(found == ("array<u32, 2>", "vec3<f32>", (16, 16)), f"constructors make {found}")
+    for ask, given, wanted in rows("answer"):
+        expect(ask(*given) == ast.literal_eval(wanted), f"{ask.__name__}{given!r} is {ask(*given)}, not {wanted}")
     expect("(bool)" in str(raised(wgsl.Refused, wgsl.unary, ("-", "f32 == 1"))), "an operator binds stronger than that of its operand")
     component = raised(wgsl.Refused, wgsl.unary, ("&", "ref<function, vec2f, read_write>.x"))
     expect("component" in str(component) and component.notes == [], f"& of a component raises {component!r}")
@@ -74,16 +51,14 @@ def check_operands():
 
 def check_refused():
     """A refusal has its notes, and a traceback prints them; what has no overloads has none."""
-    asked = [("type vec3<f32> + vec3<i32>", "why vec3<f32> + vec3<i32>"), (" \tresolve max(f32, vec2f)", "why max(f32, vec2f)")]
-    asked.append(("struct S { resolve: f32 } type S.resolve * true", "struct S { resolve: f32 } why S.resolve * true"))
-    for request, why in asked:
+    for request, why in texts("tables/python.tsv", "notes"):
         refused, wanted = raised(wgsl.Refused, wgsl.answer, (request,)), wgsl.answer(why).split("\n")
         expect(refused.notes == wanted == refused.__notes__, f"{request!r} has the notes {refused.notes}")
         if hasattr(refused, "add_note"):
             refused.add_note("as a note of the caller")
             printed = "".join(traceback.format_exception(refused))
             expect(printed.endswith("\n".join([f"wgsl.requests.Refused: {refused}", *wanted, "as a note of the caller", ""])), f"a traceback is {printed}")
-    for request in ("type f32.x", "type f32[i32]", "let x: f32 = i32", "type f32 + bool + 1", "fn f(a: i32) f(f32)", "type -(f32 + bool)"):
+    for request in listed("tables/python.tsv", "no notes"):
         refused = raised(wgsl.Refused, wgsl.answer, (request,))
         expect(refused.notes == refused.__notes__ == [], f"{request[:90]!r} has the notes {refused.notes}")
     expect(not wgsl.Refused("", "unary ! f32", "wgsl-types").__notes__, "the rules of wgsl-types have notes")

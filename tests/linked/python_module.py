@@ -3,14 +3,15 @@ import json
 import os
 import sys
 
-from source_calls import MODULES, program_json, read
-from tools import BINDINGS, LINKED, TOP, answers_and_notes, compare_both, end, expect_shown, failure, run, write_shown
+from linked.source_calls import MODULES, bytes_of, program_json
+from linked.tools import LINKED, answers_and_notes, compare_both, expect_shown, failure, write_shown
+from programs import BINDINGS, TESTS, end, fail, read, run, write
 
 FOLDER = os.path.join(BINDINGS, "python")
 PROGRAM = [sys.executable, "-B", "-m", "wgsl"]
 TO_DO = "set it to the folder where `make library FOLDER=..` wrote libwgsl.so"
 
-FOUND = {"PYTHONPATH": FOLDER, "PYTHONDONTWRITEBYTECODE": "1"}
+FOUND = {"PYTHONPATH": f"{FOLDER}{os.pathsep}{TESTS}", "PYTHONDONTWRITEBYTECODE": "1"}
 
 
 def check_python(top, folder, asked, wanted, standard_asked, standard_wanted):
@@ -22,13 +23,12 @@ def check_python(top, folder, asked, wanted, standard_asked, standard_wanted):
     below = os.path.join(top, "below", "that")
     os.makedirs(below, exist_ok=True)
     shown = write_shown("python", os.path.join(below, "shown.py"))
-    expect_shown("Python", run(sys.executable, shown, where=below, WGSL_LIB=name, **FOUND), b"vec3<f32>\n[0, 16, 28]\n")
+    expect_shown("Python", run(sys.executable, shown, where=below, WGSL_LIB=name, **FOUND), "vec3<f32>\n[0, 16, 28]\n")
     program = os.path.join(LINKED, "python_threads.py")
     threads = run(sys.executable, program, asked=standard_asked, where=top, WGSL_LIB=name, **FOUND)
     print(f"link: Python: {threads.decode().strip()}")
     for program in ("python_calls.py", "python_errors.py"):
-        printed = run(sys.executable, os.path.join(LINKED, program), where=top, WGSL_LIB=name, **FOUND)
-        print(f"link: Python: {printed.decode().strip()}")
+        print("link: Python:", run(sys.executable, os.path.join(LINKED, program), where=top, WGSL_LIB=name, **FOUND).strip())
     check_json(where)
 
 
@@ -36,37 +36,33 @@ def check_json(where):
     """With `--json` the package prints the layouts of a file, indented, and what is wrong with it, as the program does, and its
     status."""
     for path in MODULES:
-        told = json.loads(program_json(read(path)))
+        told = json.loads(program_json(bytes_of(path)))
         faults = [(kind, fault) for kind in ("error", "finding") for fault in told[f"{kind}s"]]
-        for name, asked in ((path, b""), ("-", read(path))):
+        for name, asked in ((path, b""), ("-", bytes_of(path))):
             notes = [f"{name}:{fault['line']}:{fault['column']}: {kind}: {fault['message']}\n" for kind, fault in faults]
             done = end(*PROGRAM, "--json", name, asked=asked, statuses=(1 if faults else 0,), **where)
             shown = json.dumps(told, ensure_ascii=False, indent=2) + "\n"
             if done.stdout.decode() != shown or done.stderr.decode() != "".join(notes):
-                sys.exit(f"link: in Python the layouts of {path} are {done.stdout}, and {done.stderr}")
+                fail(f"in Python the layouts of {path} are {done.stdout}, and {done.stderr}")
     if "No such file" not in failure(*PROGRAM, "--json", "none", status=2, **where):
-        sys.exit("link: python -m wgsl doesn't say that a file isn't there")
-    with open(os.path.join(TOP, "VERSION"), encoding="utf-8") as file:
-        if run(*PROGRAM, "--version", **where).decode() != f"wgsl {file.read()}":
-            sys.exit("link: python -m wgsl says another version")
+        fail("python -m wgsl doesn't say that a file isn't there")
+    if run(*PROGRAM, "--version", **where) != f"wgsl {read('VERSION')}":
+        fail("python -m wgsl says another version")
     print(f"link: Python prints the layouts of {len(MODULES)} files")
 
 
 def check_python_statuses(top):
-    program = os.path.join(LINKED, "python_statuses.py")
-    printed = run(sys.executable, program, where=top, WGSL_LIB="stub", **FOUND)
-    print(f"link: Python: {printed.decode().strip()}")
+    print("link: Python:", run(sys.executable, os.path.join(LINKED, "python_statuses.py"), where=top, WGSL_LIB="stub", **FOUND).strip())
     if run(*PROGRAM, "--json", "-", asked=b"memory", statuses=(3,), where=top, WGSL_LIB="stub", **FOUND):
-        sys.exit("link: python -m wgsl prints layouts when memory runs out")
+        fail("python -m wgsl prints layouts when memory runs out")
 
 
 def write_wrong_libraries(top):
     """A folder with a file that is no library, and one with a library that has no call."""
     for name in ("no_library", "no_call"):
         os.mkdir(os.path.join(top, name))
-    with open(os.path.join(top, "no_library", "libwgsl.so"), "w") as file:
-        file.write("no library\n")
-    run("cc", "-x", "c", "-shared", "-o", os.path.join(top, "no_call", "libwgsl.so"), "-", asked=b"int other;\n")
+    write("no library\n", top, "no_library", "libwgsl.so")
+    run("cc", "-x", "c", "-shared", "-o", os.path.join(top, "no_call", "libwgsl.so"), "-", asked="int other;\n")
 
 
 def check_python_folders(top):
@@ -85,8 +81,8 @@ def check_python_folders(top):
     for given, why in wrong:
         raised = failure(sys.executable, "-c", "import wgsl", where=top, **given, **FOUND)
         if raised.count("Traceback") != 1 or raised.splitlines()[-1] != f"ImportError: {why}":
-            sys.exit(f"link: with {given} Python raises {raised}")
+            fail(f"with {given} Python raises {raised}")
         said = failure(*PROGRAM, where=top, **given, **FOUND)
         if said.splitlines()[-1] != f"ImportError: {why}":
-            sys.exit(f"link: with {given} python -m wgsl writes {said}")
+            fail(f"with {given} python -m wgsl writes {said}")
     print(f"link: {len(wrong)} wrong values of WGSL_LIB are told in Python")

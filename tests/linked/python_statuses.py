@@ -2,23 +2,14 @@
 from concurrent.futures import ThreadPoolExecutor
 
 import wgsl
+from linked.python_raised import expect, raised
 
 TURNS = 200
 
 
-def expect(condition, what):
-    if not condition:
-        raise SystemExit(f"link: in Python {what}")
-
-
 def expect_raised(kind, request, message=None, **rules):
-    try:
-        found = wgsl.answer(request, **rules)
-    except Exception as error:
-        expect(type(error) is kind, f"{request!r:.60} raises {error!r:.200}")
-        expect(message in (None, str(error)), f"{request!r:.60} raises {error!r:.200}")
-    else:
-        expect(False, f"{request!r:.60} is answered by {found!r:.60}")
+    error = raised(kind, wgsl.answer, (request,), **rules)
+    expect(message in (None, str(error)), f"{request!r:.60} raises {error!r:.200}")
 
 
 def check_statuses():

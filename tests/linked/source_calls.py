@@ -4,10 +4,10 @@ import json
 import os
 import random
 
-from library import UNREADABLE
-from tools import TOP, run
+from linked.library import UNREADABLE
+from programs import TESTS, TOP, fail, run
 
-SOURCED = os.path.join(TOP, "tests", "sourced")
+SOURCED = os.path.join(TESTS, "sourced")
 MODULES = sorted(glob.glob(os.path.join(SOURCED, "*.wgsl")))
 # One in how many changed modules the program is asked about too.
 COMPARED = 40
@@ -29,11 +29,7 @@ CHECKED = [
 ]
 
 
-def wrong(what):
-    raise SystemExit(f"link: {what}")
-
-
-def read(path):
+def bytes_of(path):
     with open(path, "rb") as file:
         return file.read()
 
@@ -42,7 +38,7 @@ def json_of(library, text, call="source_layout"):
     """The JSON that a call writes of a text."""
     status, told = library.ask(call, text)
     if status:
-        wrong(f"{call} of {text[:200]} has status {status}")
+        fail(f"{call} of {text[:200]} has status {status}")
     return told
 
 
@@ -54,14 +50,14 @@ def program_json(text, call="source_layout"):
 
 def texts():
     """The modules, and the texts that are checked."""
-    return [*map(read, MODULES), *(text for text, *_ in CHECKED)]
+    return [*map(bytes_of, MODULES), *(text for text, *_ in CHECKED)]
 
 
 def compare_modules(library):
     for text in texts():
         for call in JSON:
             if json_of(library, text, call) != program_json(text, call):
-                wrong(f"{call} of {text[:200]} in C writes something else than the program")
+                fail(f"{call} of {text[:200]} in C writes something else than the program")
     return len(texts())
 
 
@@ -75,24 +71,24 @@ def compare_checked(library):
         found = [(it["kind"], place(it), place(it["end"])) for it in told["faults"]]
         typed = [(it["type"], it["stage"], place(it), place(it["end"]), place(it["declared"])) for it in told["types"]]
         if (found, typed, told["file"]) != (faults, types, ""):
-            wrong(f"the check of {text} has the faults {found} and the types {typed}")
+            fail(f"the check of {text} has the faults {found} and the types {typed}")
 
 
 def compare_code(library):
     """Each module in each language, and in one that there isn't."""
     for path in MODULES:
-        told = json.loads(json_of(library, read(path)))
+        told = json.loads(json_of(library, bytes_of(path)))
         for language, option in enumerate(("--c", "--rust", "--numpy", "--typescript")):
-            status, code = library.ask("source_code", read(path), language)
-            if status != bool(told["errors"]) or code != run(os.path.join(TOP, "wgsl"), "layout", option, path, statuses=(0, 1)):
-                wrong(f"the code {option} of {path} in C is another than that of the program, with status {status}")
-        if library.ask("source_code", read(path), 4) != (UNREADABLE, b""):
-            wrong("there is a fifth language")
+            status, code = library.ask("source_code", bytes_of(path), language)
+            if status != bool(told["errors"]) or code != run(os.path.join(TOP, "wgsl"), "layout", option, path, asked=b"", statuses=(0, 1)):
+                fail(f"the code {option} of {path} in C is another than that of the program, with status {status}")
+        if library.ask("source_code", bytes_of(path), 4) != (UNREADABLE, b""):
+            fail("there is a fifth language")
 
 
 def compare_changed(library):
     """A module cut after each byte, and with each byte changed."""
-    module, rng = read(os.path.join(SOURCED, "every_form.wgsl")), random.Random(38)
+    module, rng = bytes_of(os.path.join(SOURCED, "every_form.wgsl")), random.Random(38)
     changed = [module[:n] for n in range(len(module) + 1)]
     for at in range(len(module)):
         for byte in (rng.choice(b"<>(){}@;:,*/"), rng.randrange(256)):
@@ -102,7 +98,7 @@ def compare_changed(library):
             told = json_of(library, text, call)
             json.loads(told)
             if index % COMPARED == 0 and told != program_json(text, call):
-                wrong(f"{call} of {text} in C writes something else than the program")
+                fail(f"{call} of {text} in C writes something else than the program")
     return len(changed)
 
 
@@ -118,4 +114,4 @@ def check_source(library):
 
 def modules():
     """The modules, each in one line: a carriage return ends a line of WGSL too."""
-    return [read(path).replace(b"\n", b"\r") for path in MODULES]
+    return [bytes_of(path).replace(b"\n", b"\r") for path in MODULES]

@@ -1,13 +1,8 @@
 """Requests by WGSL's own rules, on the calls of tests/standard."""
-import os
 import random
-import sys
 
-from tools import TOP
-
-sys.path[1:1] = [os.path.join(TOP, "tests"), os.path.join(TOP, "tests", "overloads")]
-from calls import Calls, request  # noqa: E402, beside tests/standard
-from facts import read_facts  # noqa: E402
+from overloads.calls import Calls, request
+from overloads.facts import read_facts
 
 
 def requests(count):

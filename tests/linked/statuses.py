@@ -2,9 +2,10 @@
 import os
 import sys
 
-from python_module import FOUND, PROGRAM, check_python_statuses
-from sweeps import around_powers
-from tools import BINDINGS, LINKED, WARNINGS, compare, compile_c, compile_cpp, end, is_there, run
+from linked.python_module import FOUND, PROGRAM, check_python_statuses
+from linked.sweeps import around_powers
+from linked.tools import LINKED, WARNINGS, compile_c, compile_cpp
+from programs import BINDINGS, are_there, compare, end, fail, run
 
 UNREADABLE, OUT_OF_MEMORY = 2, 3
 
@@ -32,7 +33,7 @@ def check_program(language, program, folder, **more):
         asked = f"say a\nmemory{needed}\nsay b\n"
         printed = run(*program, asked=asked.encode(), statuses=(OUT_OF_MEMORY,), WGSL_LIB=folder, **more)
         if printed != b"a\n":
-            sys.exit(f"link: {language}, out of memory, prints {printed}")
+            fail(f"{language}, out of memory, prints {printed}")
 
 
 def check_cpp_statuses(folder, headers):
@@ -46,9 +47,9 @@ def check_versions(folders):
     for version, folder in folders.items():
         is_taken, shared = version.startswith("0.3."), os.path.join(folder, "libwgsl.so")
         done = end(sys.executable, "-c", "import wgsl", statuses=(0, 1), WGSL_LIB=folder, **FOUND)
-        said = done.stderr.decode().splitlines()[-1:]
+        said = done.stderr.splitlines()[-1:]
         if is_taken != (done.returncode == 0) or not is_taken and f"{shared} has the version {version}" not in said[0]:
-            sys.exit(f"link: Python, over a library of version {version}, says {said}")
+            fail(f"Python, over a library of version {version}, says {said}")
     print("link: Python takes only libraries of versions that serve it")
 
 
@@ -57,7 +58,7 @@ def check_statuses(top):
     folder, headers = write_stub(top), ["-I", os.path.join(BINDINGS, "c"), "-I", os.path.join(BINDINGS, "cpp")]
     lines = os.path.join(BINDINGS, "c", "lines.c")
     check_program("C", [compile_c(folder, lines, "lines", *headers)], folder)
-    if is_there("c++"):
+    if are_there("c++"):
         check_program("C++", [compile_cpp(folder, os.path.join(LINKED, "lines.cpp"), "lines_cpp", *headers)], folder)
         check_cpp_statuses(folders["0.3.7"], headers)
     check_program("Python", PROGRAM, folder, **FOUND)

@@ -1,14 +1,10 @@
 """Requests whose names, lists, types and lines have lengths around each power of two. None of them is out of memory: each
 request is answered as the program answers it, and texts of WGSL as it is said here."""
 import json
-import os
 import re
-import sys
 
-from tools import TOP
-
-sys.path[1:1] = [os.path.join(TOP, "tests")]
-from table import texts  # noqa: E402, beside tests/link
+from programs import fail
+from table import texts
 
 LONGEST = 4096
 
@@ -58,5 +54,5 @@ def compare_source(library, longest=1 << 12):
             status, told = library.ask("source_layout", text.encode())
             struct = json.loads(told)["structs"][0] if status == 0 else None
             if not struct or struct["size"] != size:
-                sys.exit(f"link: {text[:80]} .. of {len(text)} letters replies {status}, {told[:200]}")
+                fail(f"{text[:80]} .. of {len(text)} letters replies {status}, {told[:200]}")
     return asked

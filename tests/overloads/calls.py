@@ -4,8 +4,8 @@ import functools
 import itertools
 import random
 
-from search import conversions
-from signatures import SAMPLES
+from overloads.search import conversions
+from overloads.signatures import SAMPLES
 from spelling import SCALARS, declarations, is_abstract, is_value, parts_of
 
 CONCRETE = ["bool", "i32", "u32", "f32", "f16"]

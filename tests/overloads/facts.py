@@ -1,14 +1,12 @@
 """The facts: which candidates WGSL has. And what the repository has instead, with the reason for each difference."""
-import os
 import re
 from collections import Counter
 
-from signatures import candidates, name_of
+from overloads.signatures import candidates, name_of
+from programs import read
 
-HERE = os.path.dirname(os.path.abspath(__file__))
-TEXEL_FORMATS = os.path.join(HERE, "..", "..", "crates", "wgsl_syntax", "src", "texel.rt")
-BUILT_INS = os.path.join(HERE, "..", "lines", "built_ins.txt")
-NAMES = os.path.join(HERE, "..", "..", "crates", "wgsl_tables", "src", "names.rt")
+TEXEL_FORMATS, NAMES = "crates/wgsl_syntax/src/texel.rt", "crates/wgsl_tables/src/names.rt"
+SIGNATURES, BUILT_INS = "tests/overloads/wgsl.txt", "tests/lines/built_ins.txt"
 
 # naga's name of a texel format, and WGSL's.
 NAGA_NAMES = {"rg11b10float": "rg11b10ufloat"}
@@ -50,11 +48,6 @@ OWN_CANDIDATES = [converts_abstract_matrix, has_own_format]
 LEFT_OUT = [has_abstract_template, casts_abstract_integer]
 
 
-def read(path):
-    with open(path, encoding="utf-8") as file:
-        return file.read()
-
-
 def wgsl_formats(rows):
     """Each texel format of WGSL, with the type of its channels."""
     formats = {}
@@ -66,7 +59,7 @@ def wgsl_formats(rows):
 
 def read_facts():
     """The formats, and for each name its set of candidates."""
-    rows = [row for row in read(os.path.join(HERE, "wgsl.txt")).splitlines() if row and not row.startswith("#")]
+    rows = [row for row in read(SIGNATURES).splitlines() if row and not row.startswith("#")]
     formats = wgsl_formats(rows)
     table = {}
     for row in rows:

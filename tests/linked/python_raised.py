@@ -1,0 +1,16 @@
+"""What calls of the Python package raise, and what they answer."""
+
+
+def expect(condition, what):
+    if not condition:
+        raise SystemExit(f"link: in Python {what}")
+
+
+def raised(kind, ask, given, **named):
+    """What a call raises, which is of that kind."""
+    try:
+        found = ask(*given, **named)
+    except Exception as error:
+        expect(type(error) is kind, f"{ask.__name__}{given!r:.90} raises {error!r:.200}")
+        return error
+    return expect(False, f"{ask.__name__}{given!r:.90} is {found!r:.90}")
