@@ -6,46 +6,29 @@ import itertools
 import random
 
 from differing.resources import resource_questions
+from table import listed
 from types_in_words import SCALARS
 
+TABLE = "tables/differences.tsv"
 CONCRETE = [scalar for scalar in SCALARS if not scalar.startswith("Abstract")]
 NO_64_BITS = [scalar for scalar in SCALARS if "64" not in scalar]
 STRUCT = "struct S 1 a - - f32"
 
-# What operators, functions and constructors are asked for. References that can be read and one that can't are among them.
+# What operators, functions and constructors are asked for.
 TYPES = (
     SCALARS
     + ["vec 2 " + scalar for scalar in SCALARS]
     + [f"vec {n} {scalar}" for n in (3, 4) for scalar in NO_64_BITS]
     + ["mat 2 2 " + scalar for scalar in ("AbstractFloat", "f32", "f16", "f64")]
     + ["mat 2 3 AbstractFloat", "mat 2 3 f32", "mat 3 2 f32", "mat 3 2 f16", "mat 3 3 f32", "mat 4 4 AbstractFloat"]
-    + ["array 2 AbstractInt", "array 2 f32", "array * u32", STRUCT]
-    + ["ptr function read_write i32", "ptr storage read array * f32", "ptr workgroup read_write atomic u32", "atomic u32"]
-    + ["ref function read_write i32", "ref storage read vec 2 f32", "ref private read_write bool", "ref storage write f32"]
-    + ["texture_2d f32", "sampler"]
+    + listed(TABLE, "type")
 )
 
 UNARY = "- ! ~".split()
 BINARY = "+ - * / % == != < <= > >= & | ^ && || << >>".split()
 
 # The functions of values by the number of their arguments.
-OF_NONE = "subgroupElect subgroupBallot storageBarrier textureBarrier workgroupBarrier".split()
-OF_ONE = (
-    "abs acos acosh all any arrayLength asin asinh atan atanh ceil cos cosh countLeadingZeros countOneBits "
-    "countTrailingZeros degrees determinant dpdx dpdxCoarse dpdxFine dpdy dpdyCoarse dpdyFine exp exp2 firstLeadingBit "
-    "firstTrailingBit floor fract frexp fwidth fwidthCoarse fwidthFine inverseSqrt length log log2 modf normalize "
-    "pack2x16float pack2x16snorm pack2x16unorm pack4x8snorm pack4x8unorm pack4xI8 pack4xI8Clamp pack4xU8 pack4xU8Clamp "
-    "quadSwapDiagonal quadSwapX quadSwapY quantizeToF16 radians reverseBits round saturate sign sin sinh sqrt "
-    "subgroupAdd subgroupAll subgroupAnd subgroupAny subgroupBroadcastFirst subgroupExclusiveAdd subgroupExclusiveMul "
-    "subgroupInclusiveAdd subgroupInclusiveMul subgroupMax subgroupMin subgroupMul subgroupOr subgroupXor tan tanh "
-    "transpose trunc unpack2x16float unpack2x16snorm unpack2x16unorm unpack4x8snorm unpack4x8unorm unpack4xI8 unpack4xU8"
-).split()
-OF_TWO = (
-    "atan2 cross distance dot dot4I8Packed dot4U8Packed ldexp max min pow quadBroadcast reflect step subgroupBroadcast "
-    "subgroupShuffle subgroupShuffleDown subgroupShuffleUp subgroupShuffleXor"
-).split()
-OF_THREE = "clamp extractBits faceForward fma mix refract select smoothstep".split()
-OF_FOUR = ["insertBits"]
+OF_NONE, OF_ONE, OF_TWO, OF_THREE, OF_FOUR = (listed(TABLE, "function", count) for count in "01234")
 FUNCTIONS = OF_NONE + OF_ONE + OF_TWO + OF_THREE + OF_FOUR
 
 # All triples of these are asked for.

@@ -1,36 +1,21 @@
 """The questions about textures and pointers: calls that WGSL takes, and calls that differ from these by one argument."""
 import itertools
 
-SAMPLED = "1d 2d 2d_array 3d cube cube_array".split()
-DEPTH = "2d 2d_array cube cube_array".split()
-STORED = "1d 2d 2d_array 3d".split()
-OF_NAGA = ["texture_1d_array f32", "texture_multisampled_2d_array i32", "texture_storage_1d_array rgba8unorm write"]
-FORMATS = (
-    "rgba8unorm rgba8snorm rgba8uint rgba8sint r8unorm r8snorm r8uint r8sint rg8unorm rg8snorm rg8uint rg8sint rgba16unorm "
-    "rgba16snorm rgba16uint rgba16sint rgba16float r16unorm r16snorm r16uint r16sint r16float rg16unorm rg16snorm rg16uint "
-    "rg16sint rg16float r32uint r32sint r32float rg32uint rg32sint rg32float rgba32uint rgba32sint rgba32float bgra8unorm "
-    "rgb10a2uint rgb10a2unorm rg11b10float"
-).split()
-FEW_FORMATS = ["rgba8unorm", "rgba16uint", "r32sint"]
+from table import listed
+
+TABLE = "tables/differences.tsv"
+SAMPLED, DEPTH, STORED, OF_NAGA = (listed(TABLE, kind) for kind in ("sampled", "depth", "stored", "naga"))
+FORMATS, FEW_FORMATS = listed(TABLE, "format"), listed(TABLE, "few formats")
 ACCESSES = ["read", "write", "read_write"]
 SAMPLERS = ["sampler", "sampler_comparison"]
-
 # What an argument of a right call is exchanged for.
-OTHERS = (
-    "f32, i32, u32, bool, AbstractInt, AbstractFloat, f16, i64, sampler, sampler_comparison, texture_depth_2d, texture_external, "
-    "texture_depth_multisampled_2d, vec 2 f32, vec 3 f32, vec 4 f32, vec 2 i32, vec 3 u32, vec 4 i32, vec 2 AbstractInt, "
-    "vec 3 AbstractFloat, texture_2d f32, texture_2d u32, texture_cube_array i32, texture_multisampled_2d f32, "
-    "texture_storage_2d rgba8unorm read_write, ref function read_write vec 2 f32, ref private read_write i32"
-).split(", ")
+OTHERS = listed(TABLE, "other")
 
-ATOMIC_OF_TWO = "atomicAdd atomicAnd atomicExchange atomicMax atomicMin atomicOr atomicStore atomicSub atomicXor".split()
+ATOMIC_OF_TWO, HELD, VALUES = (listed(TABLE, kind) for kind in ("atomic", "held", "value"))
 ATOMIC = ["atomicLoad"] + ATOMIC_OF_TWO + ["atomicCompareExchangeWeak"]
 SPACES = ["workgroup", "storage", "private", "function", "uniform"]
-HELD = ["atomic u32", "atomic i32", "atomic i64", "u32", "f32", "bool", "vec 3 f16", "mat 2 2 f32", "array 2 f32"]
-HELD += ["array * f32", "array 3 vec 2 i32", "array 2 atomic u32", "struct S 1 a - - f32"]
 POINTERS_TO_INTEGERS = [f"ptr {space} read_write atomic {t}" for space in SPACES for t in ("u32", "i32")]
 POINTERS = [f"ptr {space} {access} {t}" for space in SPACES for access in ACCESSES for t in HELD]
-VALUES = "u32 i32 AbstractInt AbstractFloat f32 bool i64 sampler".split() + ["vec 2 u32", "ref function read_write u32"]
 
 
 def coordinates(dimensions, number):

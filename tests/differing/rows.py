@@ -5,6 +5,7 @@ that a rule speaks of are those in the first cell, unless it gives them itself; 
 it covers."""
 import re
 
+from table import texts
 from types_in_words import ABSTRACT_INT, BOOL, FLOATS, INTEGERS, count_of, is_abstract, is_vector, of
 
 
@@ -146,19 +147,5 @@ RULES = [
     Rule("constructors of matrices without a template, of AbstractInt", makes_f32),
 ]
 
-# Rows about which nothing is asked, or whose questions have one answer: the first cell, the second if the first is not
-# unique, and why.
-NOT_ASKED = [
-    ("`insertBits`", "the first argument is a float or a vector of floats", "WGSL refuses these too"),
-    ("`f64` beside an abstract operand", None, "WGSL has no `f64`, and abstract types don't convert to it there either"),
-    ("functions of ray queries", None, "they are naga's, so they have no overloads"),
-    ("`rayQueryTerminate`, `rayQueryConfirmIntersection`, `rayQueryGenerateIntersection`", None, "these too"),
-    ("constructors of arrays with a template", None, "constructors of arrays have no overloads"),
-    ("`atomicCompareExchangeWeak`", None, "`wgsl ask` prints the name of that struct without a type too"),
-    ("the address space `immediate`", None, "it is about a name, and each program prints its own"),
-    ("the texel format `rg11b10ufloat`", None, "it is about a name, and each program prints its own"),
-    ("`TextureType::sampled_type` of `texture_multisampled_2d`", None, "no request asks for it"),
-    ("`vec3` of `bool`, or of a scalar of 64 bits", None, "it is about layout"),
-    ("a struct that ends in a runtime-sized array", None, "it is about layout"),
-    ("`@size`, `@align`", None, "they are about layout"),
-]
+# Rows about which nothing is asked, or whose questions have one answer: the first cell, and the second if the first is not unique.
+NOT_ASKED = [(item, second or None) for item, second, _ in texts("tables/differences.tsv", "not asked")]

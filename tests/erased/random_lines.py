@@ -2,18 +2,12 @@
 import random
 import re
 
-SCALARS = "bool AbstractInt AbstractFloat i32 u32 f32 f16 i64 u64 f64".split()
-SPACES = "function private workgroup uniform storage handle immediate push_constant".split()
-ACCESS = "read write read_write atomic".split()
-SAMPLED = "texture_1d texture_2d texture_2d_array texture_3d texture_cube texture_cube_array texture_multisampled_2d".split()
-LEAVES = """sampler sampler_comparison texture_depth_2d texture_depth_2d_array texture_depth_cube texture_external
-texture_depth_multisampled_2d""".split() + ["ray_query -", "ray_query vertex_return", "acceleration_structure -"]
-FORMATS = "rgba8unorm r32uint rgba16float bgra8unorm r64uint".split()
-UNARY = "! - ~ & *".split()
-BINARY = "|| && + - * / % == != < <= > >= | & ^ << >>".split()
-COUNTS = ["*", "0", "1", "2", "4", "16", "4294967295", "4294967296", "18446744073709551615", "18446744073709551616"]
-LITERALS = "0 1 3 -1 2i -7i 4u 9li 9lu true false 2147483648i 4294967296u".split()
-ATTRIBUTES = ["-", "-", "-", "0", "4", "16", "48", "4294967295"]
+from table import listed
+
+SCALARS, SPACES, ACCESS, SAMPLED, LEAVES, FORMATS, UNARY, BINARY, COUNTS, LITERALS, ATTRIBUTES = (
+    listed("tables/random.tsv", "words", kind)
+    for kind in "scalar space access sampled leaf format unary binary count literal attribute".split()
+)
 ODD = ["", "\t", "\r", "größe", "\0", "<", ">", "-", "*", "4097", "é" * 9, "x" * 5000]
 NAMED = ["call", "ctor"]
 

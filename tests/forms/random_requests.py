@@ -6,28 +6,12 @@ from forms.form_requests import Operand
 from forms.kinds import concrete, element_of, is_abstract, is_constructible, is_matrix, is_vector, with_element
 from forms.rules import behind, default_access, has_fixed_footprint, is_host_shareable, is_reference
 from spelling import OWN_SCALARS, SCALARS, STRUCTS, declarations
+from table import listed, texts
 
 SPACES = "function private workgroup uniform storage immediate handle".split()
 ACCESSES = "read write read_write atomic".split()
 OPERATORS = "+ - * / % & | ^ << >>".split()
-STORED = {
-    "S": [("a", "i32"), ("b", "vec3<f32>")],
-    "T": [("a", "i32"), ("b", "vec3<f32>")],
-    "V": [("x", "f32"), ("xy", "vec2<f32>"), ("rgba", "array<f32, 2>")],
-    "Flags": [("on", "bool"), ("xyz", "vec3<bool>")],
-    "Größe": [("höhe", "f16"), ("z", "mat2x3<f16>")],
-    "Nested": [("s", "S"), ("m", "mat2x2<f32>"), ("each", "array<T, 3>")],
-    "Wide": [("l", "i64"), ("d", "vec2<f64>")],
-    "Counter": [("count", "atomic<u32>"), ("n", "i32")],
-    "Counters": [("all", "array<atomic<i32>, 4>"), ("x", "Counter")],
-    "Ends": [("n", "u32"), ("d", "array<f32>")],
-    "EndsInAtomics": [("n", "vec3<f32>"), ("d", "array<Counter>")],
-    "EndsInFlags": [("d", "array<Flags>")],
-    "EndsInside": [("n", "u32"), ("e", "Ends")],
-    "EndsEarly": [("d", "array<f32>"), ("n", "u32")],
-    "Textures": [("map", "texture_2d<f32>"), ("x", "f32")],
-    "Pointers": [("to", "ptr<function, i32, read_write>")],
-}
+STORED = {name: [tuple(member.split(": ")) for member in members] for name, *members in texts("tables/random.tsv", "struct")}
 SHAPES = {"": "%s", "vec2_": "vec2<%s>", "vec3_": "vec3<%s>", "vec4_": "vec4<%s>"}
 PRECISIONS = {"abstract": ("AbstractFloat", "AbstractInt"), "f32": ("f32", "i32"), "f16": ("f16", "i32")}
 RETURNED = {"__atomic_compare_exchange_result": [("old_value", "i32"), ("exchanged", "bool")]}
@@ -40,8 +24,7 @@ for shape, spelled in SHAPES.items():
         RETURNED[f"__modf_result_{shape}{precision}"] = [("fract", x), ("whole", x)]
         CALLS |= {f"__{name}_result_{shape}{precision}": f"{name}(%s{x})" for name in ("frexp", "modf")}
 STRUCTS.update(STORED | RETURNED)
-HANDLES = ["sampler", "sampler_comparison", "texture_2d<f32>", "texture_2d<u32>", "texture_3d<i32>", "texture_depth_2d"]
-HANDLES += ["texture_external", "texture_multisampled_2d<f32>", "texture_storage_2d<rgba8unorm, write>"]
+HANDLES = listed("tables/random.tsv", "handle")
 # The types to which an abstract scalar is changed, so that it often converts.
 TARGETS = {"AbstractInt": ["i32", "u32", "f32", "f16", "AbstractFloat", "i64"], "AbstractFloat": ["f32", "f16", "f32", "i32"]}
 SOURCES = {"i32": ["AbstractInt"], "u32": ["AbstractInt"], "f32": ["AbstractInt", "AbstractFloat"], "f16": ["AbstractFloat"]}

@@ -7,14 +7,11 @@ has three lists, the types, the types on their lines and copies of them, and if 
 By WGSL's own rules a request takes as many as one of the same form with `f32` for each scalar and `vec2f` for each vector."""
 import random
 
+from erased.random_lines import BINARY, UNARY
 from spelling import SCALARS
+from table import listed
 
-CONSTRUCTORS = "bool i32 u32 f32 f16 vec2 vec3 vec4".split()
-FUNCTIONS = """abs all any atan2 clamp countOneBits cross distance dot extractBits fma insertBits length max min mix
-normalize pow reflect select sign smoothstep sqrt step""".split()
-UNARY = "! - ~ & *".split()
-BINARY = "|| && + - * / % == != < <= > >= | & ^ << >>".split()
-NAMES = {"unary": UNARY, "binary": BINARY, "call": FUNCTIONS, "ctor": CONSTRUCTORS}
+NAMES = {"unary": UNARY, "binary": BINARY} | {kind: listed("tables/random.tsv", "short", kind) for kind in ("call", "ctor")}
 COUNTS = {"rank": 2, "unary": 1, "binary": 2, "size": 1}
 
 

@@ -7,36 +7,33 @@ import random
 from overloads.search import conversions
 from overloads.signatures import SAMPLES
 from spelling import SCALARS, declarations, is_abstract, is_value, parts_of
+from table import listed
 
+TABLE = "tables/calls.tsv"
 CONCRETE = ["bool", "i32", "u32", "f32", "f16"]
 VALUES = [shape % s for shape in ("%s", "vec2<%s>", "vec3<%s>", "vec4<%s>") for s in SCALARS]
 VALUES += [f"mat{c}x{r}<f32>" for c in "234" for r in "234"]
 VALUES += [f"mat{shape}<{s}>" for shape in ("2x2", "2x3", "3x2", "4x4") for s in ("f16", "AbstractFloat")]
-LOADED = ["ref<function, f32, read_write>", "ref<storage, vec3<f32>, read>", "ref<private, mat2x2<f32>, read_write>"]
-LOADED += ["ref<storage, i32, write>", "ref<workgroup, atomic<u32>, read_write>"]
-OTHERS = LOADED + ["array<f32, 4>", "array<AbstractInt, 2>", "Light", "atomic<u32>", "ptr<function, i32, read_write>"]
-OTHERS += ["sampler", "sampler_comparison", "texture_2d<f32>", "texture_depth_2d"]
+LOADED = listed(TABLE, "reference")
+OTHERS = LOADED + listed(TABLE, "other")
 UNIVERSE = VALUES + OTHERS
 # Fewer types, for triples and for the constructors with a template.
 FEWER = VALUES[:21] + ["mat2x2<f32>", "mat2x2<AbstractFloat>", "mat2x3<f16>", "array<f32, 4>"] + LOADED[:4]
 
-SAMPLED = ["1d", "2d", "2d_array", "3d", "cube", "cube_array", "multisampled_2d", "1d_array", "multisampled_2d_array"]
-DEPTH = ["depth_2d", "depth_2d_array", "depth_cube", "depth_cube_array", "depth_multisampled_2d", "external"]
-STORAGE = ["1d", "2d", "2d_array", "3d", "1d_array"]
-FEW_FORMATS = ["rgba8unorm", "r32sint", "rg11b10ufloat", "rgba16uint"]
+SAMPLED, DEPTH, STORAGE, FEW_FORMATS = (listed(TABLE, kind) for kind in ("sampled", "depth", "storage", "format"))
 TEXTURES = [f"texture_{kind}<{s}>" for kind in SAMPLED for s in ("i32", "u32", "f32")]
 TEXTURES += [f"texture_{kind}" for kind in DEPTH]
 
 SPACES = ["function", "private", "workgroup", "uniform", "storage", "immediate"]
 ACCESSES = ["read", "write", "read_write"]
 POINTEES = SAMPLES + [f"array<{t}>" for t in ("f32", "vec2<f32>", "mat2x2<f32>", "array<f32, 4>", "Counter")]
-SECOND = ["i32", "u32", "AbstractInt", "f32", "ref<function, i32, read>"]  # what atomic functions take beside the pointer
+SECOND = listed(TABLE, "second")  # what atomic functions take beside the pointer
 POINTERS = [f"ptr<{s}, {t}, {a}>" for s in SPACES for t in POINTEES for a in ACCESSES]
 
 UNARY = ["!", "-", "~"]  # `&` and `*` have no overloads
 TEMPLATES = [shape % s for shape in ("%s", "vec2<%s>", "vec3<%s>", "vec4<%s>") for s in CONCRETE] + ["mat2x2<f32>"]
 # Functions of three and more values, which are asked with many triples.
-WIDE = ["clamp", "fma", "smoothstep", "mix", "faceForward", "refract", "select", "extractBits"]
+WIDE = listed(TABLE, "wide")
 
 
 def storage_textures(formats):

@@ -2,33 +2,19 @@
 import itertools
 import re
 
-from spelling import SCALARS, is_constructible, split_list
+from spelling import is_constructible, split_list
+from table import listed, texts
 
 NAME = re.compile(r"\w+|[^\w(]+")
 SHAPE = re.compile(r"(?:<([^()]*)>)?\(([^()]*)\)(?: -> ([^,]+))?((?:, [A-Z]+: [^,]+)*)")
 SIZE = re.compile(r"(?<=vec)[A-Z]|(?<=mat)[A-Z]|(?<=mat.x)[A-Z]")
 LETTER = re.compile(r"(?<![A-Za-z0-9])[A-Z]+(?![A-Za-z0-9_])")
 
-KINDS = {
-    "scalar": SCALARS,
-    "number": ["AbstractInt", "AbstractFloat", "i32", "u32", "f32", "f16"],
-    "signed number": ["AbstractInt", "AbstractFloat", "i32", "f32", "f16"],
-    "integer": ["AbstractInt", "i32", "u32"],
-    "signed integer": ["AbstractInt", "i32"],
-    "float": ["AbstractFloat", "f32", "f16"],
-    "concrete scalar": ["bool", "i32", "u32", "f32", "f16"],
-    "concrete number": ["i32", "u32", "f32", "f16"],
-    "concrete integer": ["i32", "u32"],
-    "concrete float": ["f32", "f16"],
-    "32-bit number": ["i32", "u32", "f32"],
-}
+KINDS = {kind: words for kind, *words in texts("tables/calls.tsv", "kind")}
 CHANNEL = "channel type of F"
 
 # What a letter for any type stands for: the types that pointers and runtime-sized arrays are of in the calls.
-SAMPLES = ["bool", "i32", "u32", "f32", "f16", "vec2<f32>", "vec3<bool>", "vec4<i32>", "mat2x2<f32>", "mat3x4<f16>"]
-SAMPLES += ["array<u32>", "array<f32, 4>", "array<array<vec2<u32>, 3>, 2>", "array<Light>", "array<Light, 2>"]
-SAMPLES += ["atomic<i32>", "atomic<u32>", "array<atomic<i32>>", "array<atomic<u32>, 4>", "Light", "Counter", "Row"]
-SAMPLES += ["AbstractInt", "vec2<AbstractFloat>", "sampler"]
+SAMPLES = listed("tables/calls.tsv", "sample")
 
 
 def name_of(line):
