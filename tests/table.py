@@ -42,6 +42,17 @@ def listed(path, *kind):
     return [each for row in texts(path, *kind) for each in row]
 
 
+def around_powers(most):
+    """Each power of two up to that number, and the numbers beside it."""
+    return sorted({2**k + step for k in range(most.bit_length()) for step in (-1, 0, 1)})
+
+
+def swept(text, n, name=""):
+    """A row with that many of what is swept in it, or with that name."""
+    text = re.sub("«N (.*?)»", lambda many: many[1] * n, text)
+    return text.replace("«N»", str(n)).replace("«NAME»", name)
+
+
 def requests(*folder):
     """The requests of tests/lines, or of a folder of it, with their answers."""
     for name in sorted(glob.glob(os.path.join(TESTS, "lines", *folder, "*.txt"))):

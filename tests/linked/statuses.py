@@ -3,9 +3,9 @@ import os
 import sys
 
 from linked.python_module import FOUND, PROGRAM, check_python_statuses
-from linked.sweeps import around_powers
 from linked.tools import LINKED, WARNINGS, compile_c, compile_cpp
 from programs import BINDINGS, are_there, compare, end, fail, run
+from table import around_powers
 
 UNREADABLE, OUT_OF_MEMORY = 2, 3
 

@@ -1,23 +1,11 @@
 """Requests whose names, lists, types and lines have lengths around each power of two. None of them is out of memory: each
 request is answered as the program answers it, and texts of WGSL as it is said here."""
 import json
-import re
 
 from programs import fail
-from table import texts
+from table import around_powers, swept, texts
 
 LONGEST = 4096
-
-
-def around_powers(most):
-    """Each power of two up to that number, and the numbers beside it."""
-    return sorted({2**k + step for k in range(most.bit_length()) for step in (-1, 0, 1)})
-
-
-def swept(text, n, name=""):
-    """A row with that many of what is swept in it, or with that name."""
-    text = re.sub("«N (.*?)»", lambda many: many[1] * n, text)
-    return text.replace("«N»", str(n)).replace("«NAME»", name)
 
 
 def requests(kind):
