@@ -19,7 +19,7 @@ pub use Rattle.wgsl_reader.specs.declared.token.Token.{Token}
 pub use Rattle.wgsl_requests.proofs.Shared.{ap, arith, Bool, Err, Fail, false, length, List, map, member_view, None, Ok, Option, option_map, refl, Result}
 pub use Rattle.wgsl_requests.proofs.Shared.{rules, Some, subst, suc, sym, take, true, view, WgslRequest, WgslType, written_view, zero, ℕ, [], ◌++◌, ◌+◌, ◌-◌}
 pub use Rattle.wgsl_requests.proofs.Shared.{◌<◌, ◌∙◌, ◌∷◌, ◌≡◌}
-pub use Rattle.wgsl_requests.proofs.HasOne.{behind, HasOne, known}
-pub use Rattle.wgsl_requests.proofs.OneReply.{EachAnswered, one_answer, one_of_line, one_reply_of}
+pub use Rattle.wgsl_requests.proofs.OneAnswer.{behind, HasOne, known}
+pub use Rattle.wgsl_requests.proofs.OneAnswer.{EachAnswered, one_answer, one_of_line, one_reply_of}
 pub use Rattle.wgsl_requests.specs.Requests.{form_of, overloads_of}
 pub use Rattle.wgsl_spelling.specs.Words.{word}

@@ -6,7 +6,7 @@ use Rattle.wgsl_expressions.proofs.Common.{is_constant, member_in, operand, outc
 use Rattle.wgsl_expressions.proofs.Common.{operand_token, Declared, Scope, Becomes, EndsIf, Given, Value, literal_of, with_given, overloads_of, one_of_line}
 use Rattle.wgsl_expressions.proofs.Common.{one_reply_of, word}
 use Rattle.wgsl_forms.specs.Concrete.{has_abstract_type}
-use Rattle.wgsl_requests.specs.Forms.{index_of, member_of}
+use Rattle.wgsl_requests.specs.Requests.{index_of, member_of}
 use Rattle.wgsl_reader.proofs.OneOutcome.{one_outcome as one_reading}
 use Rattle.wgsl_reader.proofs.SomeOutcome.{some_outcome as some_reading}
 use Rattle.wgsl_reader.specs.declared.grammar.Symbol.TheVariants as symbols

@@ -7,7 +7,7 @@ use Rattle.wgsl_syntax.specs.declared.operator.UnaryOperator.TheVariants.{Addres
 use Rattle.wgsl_forms.specs.Index.{is_vector}
 use Rattle.wgsl_forms.specs.Member.{is_swizzle}
 use Rattle.wgsl_forms.specs.declared.form.Referent.{Referent}
-use Rattle.wgsl_requests.specs.Forms.{address_of, construct_of, index_of, member_of, typed_array_of}
+use Rattle.wgsl_requests.specs.Requests.{address_of, construct_of, index_of, member_of, typed_array_of}
 use Rattle.wgsl_rules.specs.types.Inner.{inner_of}
 use Rattle.wgsl_rules.specs.types.Types.{within, atomic, pointer, reference, binding_array}
 

@@ -1,7 +1,7 @@
 // Requests about the parts of an expression.
 ghost use Rattle.std.specs.Prelude.{◌≡◌, ◌∷◌, [], IfOk, None, map, option_map, string_bytes};
 ghost use Rattle.wgsl_expressions.specs.Prelude.{a_binary, list_all, shown_type, view, formed_from, is_memory, form_of, request_view, written_view};
-ghost use Rattle.wgsl_requests.specs.Forms.{index_of, member_of};
+ghost use Rattle.wgsl_requests.specs.Requests.{index_of, member_of};
 ghost use Rattle.wgsl_expressions.specs.Outcomes.{IsCalled, IsElement, IsMember, asked, asked_with, is_const_call, is_constant, makes_constant, member_in, no_parts, operand, operand_by, overloaded, part_in, referent_of, result_of_call, swizzle_in, with_part};
 ghost use Rattle.wgsl_expressions.specs.Steps.{given};
 ghost use Rattle.wgsl_expressions.specs.Views.{IsFound, found_outcome, head_view, outcome_view, refused_view, shown, typed_view};

@@ -10,8 +10,8 @@ use Rattle.wgsl_laws.proofs.Calls.{a_call}
 use Rattle.wgsl_laws.proofs.Constructors.{a_constructor}
 use Rattle.wgsl_laws.proofs.Operators.{a_rank, a_received, a_binary, a_unary}
 use Rattle.wgsl_laws.proofs.Sizes.{exact_alignment, exact_size, layout_or_cause, offsets_or_cause}
-use Rattle.wgsl_requests.proofs.HasOne.{HasOne}
-use Rattle.wgsl_requests.proofs.OneReply.{EachAnswered}
+use Rattle.wgsl_requests.proofs.OneAnswer.{HasOne}
+use Rattle.wgsl_requests.proofs.OneAnswer.{EachAnswered}
 use Rattle.wgsl_expressions.specs.Outcomes.{Outcome}
 use Rattle.wgsl_expressions.specs.Scopes.{Scope}
 use Rattle.wgsl_expressions.specs.Typing.{IsTyped}

@@ -1,11 +1,14 @@
--- Lists as they are written, over values and over what these are seen as.
+-- What is written at the end of a text: another text, numbers digit by digit, and lists, over values and over what these are seen as.
 use Rattle.wgsl_requests.proofs.Shared.{◌≡◌, ◌∙◌, ◌++◌, ℕ, List, [], ◌∷◌, Option, Some, codes, decimal, map, refl, sym, ap, append_assoc, WgslType, listed}
 use Rattle.wgsl_requests.proofs.Shared.{parameter_text, template_text, wgsl_spelling, types_of, value_of, parameter_view, view, «Type», unknown_name}
-use Rattle.wgsl_requests.proofs.Shared.{given_type, Operand, WgslCall, loaded, written_view, lined}
+use Rattle.wgsl_requests.proofs.Shared.{given_type, Operand, WgslCall, loaded, written_view, ◌+◌, ◌<◌, ◌%◌, ◌^◌, Result, Ok, Err, arith, is_ok, OnOk}
+use Rattle.wgsl_requests.proofs.Shared.{if◌then◌else◌}
 use Rattle.std.proofs.lemmas.List.Folds.{flat_map-map}
 use Rattle.wgsl_core.specs.declared.signature.TpltParam.{TpltParam}
 use Rattle.wgsl_standard.specs.Meant.{meant}
-use Rattle.wgsl_requests.specs.Texts.{lines_text, no_overload_text, refusal_for, resolution_text, result_text, suggestion, unknown_text}
+use Rattle.wgsl_requests.specs.Texts.{no_overload_text, refusal_for, resolution_text, result_text, suggestion, unknown_text}
+use Rattle.std.proofs.Common.{◌≤◌, ◌/◌}
+use Rattle.std.proofs.lemmas.Fmt.{decimal_digit, decimal_step}
 
 pub listed_seen : {A B : Type 0} (text : B → List ℕ) (f : A → B) (xs : List A) → listed text (map f xs) ≡ listed (λ x. text (f x)) xs
 listed_seen text f [] = refl
@@ -15,10 +18,6 @@ pub operand_types : (xs : List Operand) → listed wgsl_spelling (types_of (load
 operand_types xs = listed_seen wgsl_spelling (λ x. x.of_type) (loaded (map written_view xs))
     ∙ listed_seen (λ x. wgsl_spelling x.of_type) (λ x. record { of_type = value_of x.of_type; is_constant = x.is_constant }) (map written_view xs)
     ∙ listed_seen (λ x. wgsl_spelling (value_of x.of_type)) written_view xs
-
-pub lines_seen : {A : Type 0} (text : A → List ℕ) (xs : List A) → lines_text (map text xs) ≡ lined text xs
-lines_seen text [] = refl
-lines_seen text (x ∷ xs) = ap (λ rest. text x ++ rest) (flat_map-map (λ line. codes "\n" ++ line) text xs)
 
 -- the text of a resolution, of which the result is written last
 
@@ -71,3 +70,19 @@ refusal_written old first named with taken shown all name template xs a b c d e 
     let so_far : taken ≡ (((old ++ codes "no overload of `") ++ name) ++ template) ++ codes "` takes (" = d ∙ ap (λ y. y ++ codes "` takes (") (c ∙ ap (λ y. y ++ template) (b ∙ ap (λ y. y ++ name) a)) in
     f ∙ ap (λ y. y ++ codes ")") (e ∙ ap (λ y. taken ++ y) (sym (operand_types xs)) ∙ ap (λ y. y ++ types) so_far)
     ∙ refusal_parts old (codes "no overload of `") name template (codes "` takes (") types (codes ")")
+
+-- what `push_str` writes
+pub pushed : {T E : Type 0} → (r : Result T E) (new old text : List ℕ) → new ≡ (if is_ok r then old ++ text else old) → OnOk r (new ≡ old ++ text)
+pushed (Ok x) new old text e = e
+pushed (Err e) new old text p = tt
+
+-- the last digit, behind those in front of it
+pub last_digit : (n : ℕ) (old mid : List ℕ) → 10 ≤ n → n < 2 ^ 64 → mid ≡ old ++ decimal (n / 10) → mid ++ (48 + n % 10) ∷ [] ≡ old ++ decimal n
+last_digit n old mid more fits is =
+    ap (λ m. m ++ (48 + n % 10) ∷ []) is ∙ (append_assoc old (decimal (n / 10)) ((48 + n % 10) ∷ []) ∙ ap (λ ds. old ++ ds) (sym (decimal_step n more fits)))
+
+-- the only digit
+pub one_digit : (n : ℕ) (old mid : List ℕ) → n < 10 → mid ≡ old → mid ++ (48 + n % 10) ∷ [] ≡ old ++ decimal n
+one_digit n old mid few is =
+    let same : n % 10 ≡ n = omega (arith, few) in
+    ap (λ m. m ++ (48 + n % 10) ∷ []) is ∙ ap (λ ds. old ++ ds) (ap (λ k. (48 + k) ∷ []) same ∙ sym (decimal_digit n few))

@@ -1,10 +1,11 @@
--- A request has at most one answer, and by WGSL's own overloads exactly one.
-use Rattle.wgsl_requests.proofs.Shared.{◌≡◌, ◌⊎◌, inl, inr, ◌∙◌, ◌+◌, ◌<◌, ℕ, zero, suc, Bool, true, false, List, [], ◌∷◌, Option, Some, None, length, map}
-use Rattle.wgsl_requests.proofs.Shared.{take, refl, sym, ap, subst, arith, cases_lt, MatchBool, IsTrue, MatchOption, option_map, Overload, WgslType}
+-- A request has at most one answer, by WGSL's own overloads exactly one, and what was read of a line one reply, if every request has an
+-- answer.
+use Rattle.wgsl_requests.proofs.Shared.{◌≡◌, ◌∙◌, Bool, true, false, refl, subst, sym, Decides, ◌⊎◌, inl, inr, ◌+◌, ◌<◌, ℕ, zero, suc, List, [], ◌∷◌, Option}
+use Rattle.wgsl_requests.proofs.Shared.{Some, None, length, map, take, ap, arith, cases_lt, MatchBool, IsTrue, MatchOption, option_map, Overload, WgslType}
 use Rattle.wgsl_requests.proofs.Shared.{is_template, template_operand, IsCallAnswer, IsNamedAnswer, IsResolution, IsChosen, WgslOperand as Operand}
 use Rattle.wgsl_requests.proofs.Shared.{parameters_for, result_for, types_of, WgslCallee, overloads_listed, IsCallResolution, IsNamedResolution, with_line}
 use Rattle.wgsl_requests.proofs.Shared.{note_listed, Mismatch, WgslCall, WgslResolution, loaded, template_type, AreNotesWith, IsExplanationOf, IsResolutionOf}
-use Rattle.wgsl_requests.proofs.Shared.{IsTypeOf, RuleSet, Members, Converts, HasSizeBy, HasAlignmentBy, IsExactly, left_common_once, WgslRequest}
+use Rattle.wgsl_requests.proofs.Shared.{IsTypeOf, RuleSet, Members, Converts, HasSizeBy, HasAlignmentBy, IsExactly, left_common_once, WgslRequest, is_utf8}
 use native.Mathlib.Decide.{ℕ_discrete}
 use Rattle.wgsl_syntax.specs.declared.overload.Substitution.{Substitution}
 use Rattle.wgsl_rules.specs.standard.Overloads.{patterns_of}
@@ -19,16 +20,39 @@ use Rattle.wgsl_standard.proofs.FirstParameters.{some_takes_first_is}
 use Rattle.wgsl_standard.proofs.NamedTables.{IfTable, listed_table}
 use Rattle.wgsl_standard.proofs.OneChoice.{chosen_once}
 use Rattle.wgsl_standard.proofs.StandardAnswers.{an_answer, answer_once as standard_once}
-use Rattle.wgsl_requests.proofs.HasOne.{HasOne, behind, decided, known}
 use Rattle.wgsl_rules.proofs.calls.OneAnswer.{call_answer_once}
 use Rattle.wgsl_rules.proofs.constructors.OneAnswer.{constructor_answer_once}
 use Rattle.wgsl_rules.proofs.layout.OneLayout.{layout_once, offsets_once}
 use Rattle.wgsl_rules.proofs.layout.StructSizes.{never_both}
 use Rattle.wgsl_rules.proofs.operators.OneAnswer.{operator_answer_once, unary_answer_once}
 use Rattle.wgsl_requests.specs.Answers.{Answers, WgslAnswer, WgslLayout, IsReceivedCommon, AreOffsetsOf, IsLayoutOf, a_number, a_size, a_common_type, a_type, a_value, some_offsets, a_layout, a_type_of, a_resolution_of, some_lines, a_form_type, a_fit, rank_is, common_is, unary_is, binary_is, size_is, offsets_are, layout_is, ctor_is, call_is, type_of_is, resolution_of_is, explanation_of_is, unknown_is, overloads_of_are, form_is, fit_is}
-use Rattle.wgsl_requests.specs.Forms.{WgslForm, IsFormType, member_of, index_of, load_of, declaration_of, override_of, assignment_of, increment_of, discard_of, construct_of, switch_of, address_of, indirection_of, array_of, typed_array_of, variable_of, initialized_of}
+use Rattle.wgsl_requests.specs.Requests.{WgslForm, IsFormType, assignment_of, array_of}
 use Rattle.wgsl_forms.specs.Assign.{operator_of}
 use Rattle.wgsl_forms.proofs.OnlyAnswers.{arrays, assignments}
+use Rattle.std.proofs.lemmas.Str.{IsUtf8-from_is_utf8, is_utf8-from_IsUtf8}
+use Rattle.wgsl_requests.specs.Replies.{IsAnswer, IsLineOfText, IsReplyOf, OfLine, ReplyText, answer, unreadable}
+use Rattle.wgsl_requests.specs.Texts.{answer_text, text_kind}
+use Rattle.wgsl_requests.specs.declared.reply.TextKind.{TextKind}
+
+-- what holds of at most one value, and of one if something else is known
+pub record HasOne {A : Type 0} (If : Type 0) (R : A → Type 0) : Type 0 where
+  pub once : (q r : A) → R q → R r → q ≡ r
+  pub some : If → (r : A) × R r
+
+-- what R is given by
+pub known : {A If : Type 0} (x : A) → HasOne If (λ r. r ≡ x)
+known x = record { once = λ q r f g. f ∙ sym g; some = λ given. (x, refl) }
+
+-- what follows from what P holds of
+pub behind : {A B If : Type 0} {P : A → Type 0} {Q : A → B → Type 0} → HasOne If P → ((x : A) → HasOne If (Q x)) → HasOne If (λ r. (x : A) × P x × Q x r)
+behind {Q = Q} p q = record {
+  once = λ r s f g. (q g.0).once r s (subst (λ x. Q x r) (p.once f.0 g.0 f.1 g.1) f.2) g.2;
+  some = λ given. let x = p.some given in let r = (q x.0).some given in (r.0, (x.0, x.1, r.1));
+}
+
+pub decided : {P : Type 0} (b : Bool) → Decides b P → Dec P
+decided true d = yes (d.0 refl)
+decided false d = no (λ h. absurd (cc (d.1 h)))
 
 -- with any template
 
@@ -212,22 +236,9 @@ only : {A : Type 0} {R : A → Type 0} → (r : A) × R r × ((s : A) → R s �
 only one = record { once = λ q r f g. one.2 q f ∙ sym (one.2 r g); some = λ _. (one.0, one.1) }
 
 pub one_form_type : (f : WgslForm) → HasOne (Unit {0}) (IsFormType f)
-one_form_type (member_of x name) = known _
-one_form_type (index_of x i) = known _
-one_form_type (load_of x) = known _
-one_form_type (declaration_of d x t) = known _
-one_form_type (override_of t) = known _
 one_form_type (assignment_of o x y) = only (assignments (operator_of o) x.of_type y)
-one_form_type (increment_of x) = known _
-one_form_type (discard_of x) = known _
-one_form_type (construct_of t xs) = known _
-one_form_type (switch_of x ys) = known _
-one_form_type (address_of x c) = known _
-one_form_type (indirection_of x) = known _
 one_form_type (array_of xs) = only (arrays (types_of xs))
-one_form_type (typed_array_of t n xs) = known _
-one_form_type (variable_of m a t) = known _
-one_form_type (initialized_of m a x t) = known _
+one_form_type form = known _
 
 -- whatever the request
 same_answer : {request : WgslRequest} {a b : WgslAnswer} → Answers request a → Answers request b → a ≡ b
@@ -252,3 +263,48 @@ same_answer (fit_is r f) (fit_is s g) = ap a_fit (f ∙ sym g)
 
 pub answer_once : (request : WgslRequest) (a b : WgslAnswer) → Answers request a → Answers request b → a ≡ b
 answer_once request a b h k = same_answer h k
+
+-- at most one text, of one kind, answers a request
+pub one_text : (request : WgslRequest) (k l : TextKind) (a b : List ℕ) → IsAnswer request k a → IsAnswer request l b → (k ≡ l) × (a ≡ b)
+one_text request k l a b f g =
+    let same = answer_once request f.0 g.0 f.1 g.1 in
+    (f.2 ∙ (ap text_kind same ∙ sym g.2), f.3 ∙ (ap answer_text same ∙ sym g.3))
+
+abbrev pub EachAnswered : Type 0
+EachAnswered = (request : WgslRequest) → (a : WgslAnswer) × Answers request a
+
+pub one_answer : (request : WgslRequest) → HasOne EachAnswered (Answers request)
+one_answer request = record { once = answer_once request; some = λ answered. answered request }
+
+pub one_reply_of : (request : Option WgslRequest) → HasOne EachAnswered (IsReplyOf request)
+one_reply_of None = known unreadable
+one_reply_of (Some request) = record {
+  once = λ a b f g.
+      let same = one_text request f.0 g.0 f.1 g.1 f.2 g.2 in f.3 ∙ (ap (λ kind. answer kind f.1) same.0 ∙ (ap (λ text. answer g.0 text) same.1 ∙ sym g.3));
+  some = λ answered.
+      let a = answered request in (answer (text_kind a.0) (answer_text a.0), (text_kind a.0, answer_text a.0, (a.0, a.1, refl, refl), refl));
+}
+
+dec_line : (line : List ℕ) → Dec (IsLineOfText line)
+dec_line line = elim (cases_lt 4096 (length line)) [
+  | inl long ↦ no (λ is. absurd (omega (arith, long, is.short)))
+  | inr short ↦ elim (decided (is_utf8 line) (IsUtf8-from_is_utf8 line, is_utf8-from_IsUtf8 line)) [
+    | no other ↦ no (λ is. other is.is_text)
+    | yes text ↦ yes (record { short = omega (arith, short); is_text = text })
+  ]
+]
+
+pub one_of_line : {Holds : ReplyText → Type 0} → HasOne EachAnswered Holds → (bytes : List ℕ) → HasOne EachAnswered (OfLine Holds bytes)
+one_of_line {Holds = Holds} one bytes = record {
+  once = once;
+  some = λ answered. elim (dec_line bytes) [
+    | no other ↦ (unreadable, inr (other, refl))
+    | yes is ↦ let r = one.some answered in (r.0, inl (is, r.1))
+  ];
+}
+  where
+    once : (a b : ReplyText) → OfLine Holds bytes a → OfLine Holds bytes b → a ≡ b
+    once a b (inl f) (inl g) = one.once a b f.1 g.1
+    once a b (inl f) (inr g) = absurd (g.0 f.0)
+    once a b (inr f) (inl g) = absurd (f.0 g.0)
+    once a b (inr f) (inr g) = f.1 ∙ sym g.1

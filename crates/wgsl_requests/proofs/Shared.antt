@@ -21,12 +21,11 @@ pub use Rattle.wgsl_core.specs.declared.layout.StructLayout.{StructLayout}
 pub use Rattle.wgsl_core.specs.declared.ty.Type.{the_lemmas, «Type»}
 pub use Rattle.wgsl_forms.specs.Lists.{constructed, list_fits}
 pub use Rattle.wgsl_forms.specs.Views.{answer_view, taker_view, unbuilt_view}
-pub use Rattle.wgsl_requests.specs.Calls.{loaded, template_type, WgslCall, WgslResolution}
+pub use Rattle.wgsl_requests.specs.Standard.{loaded, template_type, WgslCall, WgslResolution}
 pub use Rattle.wgsl_requests.specs.Texts.{column, columns, layout_text, member_line, member_lines, struct_line}
 pub use Rattle.wgsl_requests.specs.Requests.{call, ctor, unary, WgslRequest}
 pub use Rattle.wgsl_requests.specs.Standard.{AreNotesWith, IsExplanationOf, IsResolutionOf, IsTypeOf, WithTemplate}
-pub use Rattle.wgsl_requests.specs.Views.{call_view, layout_view, outcome, written_view}
-pub use Rattle.wgsl_requests.specs.internal.Written.{lined, placed_line, placed_lines}
+pub use Rattle.wgsl_requests.specs.Views.{call_view, layout_view, outcome, placed_line, placed_lines, written_view}
 pub use Rattle.wgsl_rules.proofs.conversion.Commons.{left_common_once, receives_cons, receives_head, receives_nil, receives_tail}
 pub use Rattle.wgsl_rules.specs.conversion.Conversion.{Converts, ConvertsTo}
 pub use Rattle.wgsl_rules.specs.layout.Layout.{AreOffsetsBy, HasAlignmentBy, HasNoSizeBy, HasSizeBy, IsExactly}

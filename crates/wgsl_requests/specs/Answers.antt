@@ -9,10 +9,8 @@ use Rattle.wgsl_rules.specs.layout.Layout.{AreOffsetsBy, HasAlignmentBy, HasNoSi
 use Rattle.wgsl_rules.specs.constructors.Constructors.{IsConstructorAnswer}
 use Rattle.wgsl_rules.specs.calls.Answers.{IsCallAnswer}
 use Rattle.wgsl_standard.specs.Lines.{lines_named}
-use Rattle.wgsl_requests.specs.Calls.{WgslCall, WgslResolution}
-use Rattle.wgsl_requests.specs.Forms.{WgslForm, IsFormType}
-use Rattle.wgsl_requests.specs.Standard.{IsExplanationOf, IsResolutionOf, IsTypeOf}
-use Rattle.wgsl_requests.specs.Requests.{WgslRequest, rank, common, unary, binary, size, offsets, layout, ctor, call, type_of, resolution_of, explanation_of, overloads_of, form_of, fit_of}
+use Rattle.wgsl_requests.specs.Standard.{WgslCall, WgslResolution, IsExplanationOf, IsResolutionOf, IsTypeOf}
+use Rattle.wgsl_requests.specs.Requests.{WgslForm, IsFormType, WgslRequest, rank, common, unary, binary, size, offsets, layout, ctor, call, type_of, resolution_of, explanation_of, overloads_of, form_of, fit_of}
 
 -- a struct's layout: the size, the alignment and the offset of each member, its own size and alignment
 pub record WgslLayout : Type 0 where

@@ -1,10 +1,10 @@
 -- How answers are written.
 use Rattle.std.specs.Prelude.{ℕ, ◌-◌, List, [], ◌∷◌, ◌++◌, codes, decimal, flat_map, length, replicate, ◌≡◌, Option, Some, None, Result, Ok, Err, OnOk, String, string_bytes}
-use Rattle.wgsl_requests.specs.Prelude.{WgslType, Members, member, spelling, MemberLayout, spelling_by, wgsl_spelling, Refusal, message, types_of, listed}
-use Rattle.wgsl_requests.specs.Prelude.{template_text, unknown_name, name_of, Fits, FormRefusal, refusal_text}
+use Rattle.wgsl_requests.specs.Prelude.{WgslType, Members, member, spelling, MemberLayout, spelling_by, wgsl_spelling, message, types_of, listed}
+use Rattle.wgsl_requests.specs.Prelude.{template_text, unknown_name, name_of, refusal_text}
 use Rattle.wgsl_requests.specs.Answers.{WgslLayout, WgslAnswer, a_number, a_size, a_common_type, a_type, a_value, some_offsets, a_layout, a_type_of, a_resolution_of, some_lines, a_form_type, a_fit, out_of_memory}
 use Rattle.wgsl_standard.specs.Meant.{meant}
-use Rattle.wgsl_requests.specs.Calls.{WgslCall, WgslResolution, loaded}
+use Rattle.wgsl_requests.specs.Standard.{WgslCall, WgslResolution, loaded}
 use Rattle.wgsl_requests.specs.declared.reply.TextKind.{TextKind}
 use Rattle.wgsl_requests.specs.declared.reply.TextKind.TheVariants as kinds
 
@@ -54,9 +54,9 @@ or_none text (Some x) = text x
 or_none text None = codes "none"
 
 -- the text of a value, or the message of a refusal
-abbrev pub or_message : {A : Type 0} → (A → List ℕ) → Result A Refusal → List ℕ
-or_message text (Ok x) = text x
-or_message text (Err e) = message e
+abbrev pub or_message : {A E : Type 0} → (A → List ℕ) → (E → List ℕ) → Result A E → List ℕ
+or_message text message (Ok x) = text x
+or_message text message (Err e) = message e
 
 -- what a call returns
 abbrev pub value_text : Option WgslType → List ℕ
@@ -103,16 +103,6 @@ result_text None = []
 abbrev pub resolution_text : WgslResolution → List ℕ
 resolution_text r = decimal r.0 ++ codes " (" ++ listed wgsl_spelling r.1 ++ codes ")" ++ result_text r.2
 
--- the type of a form, or why it has none
-abbrev pub form_text : Result WgslType FormRefusal → List ℕ
-form_text (Ok t) = wgsl_spelling t
-form_text (Err e) = refusal_text e
-
--- that the values fit, or why they don't
-abbrev pub fit_text : Fits → List ℕ
-fit_text (Ok u) = codes "fits"
-fit_text (Err e) = refusal_text e
-
 -- the rules refuse an expression, or anything else is answered; no request is answered by out of memory
 abbrev pub text_kind : WgslAnswer → TextKind
 text_kind (a_type (Err e)) = kinds.Refusal
@@ -133,9 +123,9 @@ answer_text (a_size s a) = or_none decimal s ++ codes " " ++ or_none decimal a
 -- `f32`
 answer_text (a_common_type rules c) = or_none (spelling_by rules) c
 -- `vec3<f32>`, ``cannot use unary operator `-` on type `bool` ``
-answer_text (a_type r) = or_message spelling r
+answer_text (a_type r) = or_message spelling message r
 -- `f32`, `no value`
-answer_text (a_value r) = or_message value_text r
+answer_text (a_value r) = or_message value_text message r
 -- `0 16 32`
 answer_text (some_offsets o) = or_none spaced o
 answer_text (a_layout name ms l) = or_none (layout_text name ms) l
@@ -144,7 +134,7 @@ answer_text (a_type_of c r) = or_no_overload value_text c r
 answer_text (a_resolution_of c r) = or_no_overload resolution_text c r
 answer_text (some_lines lines) = lines_text lines
 -- `ref<function, f32, read_write>`, ``vec2<f32>` has no component `z` ``
-answer_text (a_form_type r) = form_text r
+answer_text (a_form_type r) = or_message wgsl_spelling refusal_text r
 -- `fits`, ``invalid parameter type, expected `f32`, got `i32` ``
-answer_text (a_fit r) = fit_text r
+answer_text (a_fit r) = or_message (λ u. codes "fits") refusal_text r
 answer_text out_of_memory = []

@@ -1,13 +1,17 @@
 -- How the rules see requests and answers.
-use Rattle.std.specs.Prelude.{Result, Ok, Err, map, option_map}
-use Rattle.wgsl_requests.specs.Prelude.{Refusal, binary as refused_operands, Operand, WgslType, refusal, parameter_view, struct_view, view, Error, Fail}
+use Rattle.std.specs.Prelude.{◌++◌, ℕ, List, [], ◌∷◌, Option, Some, None, Result, Ok, Err, map, option_map}
+use Rattle.wgsl_requests.specs.Prelude.{Refusal, binary as refused_operands, Operand, WgslType, refusal, parameter_view, member_view, struct_view, view, Error, Fail}
 use Rattle.wgsl_requests.specs.Prelude.{answer_view as form_answer, form_type_view, taker_view, callee_view, given_type, result_view}
 use Rattle.wgsl_requests.specs.Prelude.{resolved_view as resolved_call_view, line_of, note_text}
 use Rattle.wgsl_core.specs.Layout.{layouts_of, offsets_of}
 use Rattle.wgsl_core.specs.declared.error.Fail.TheVariants as fails
+use Rattle.wgsl_core.specs.declared.layout.PlacedMember.{PlacedMember}
 use Rattle.wgsl_core.specs.declared.layout.StructLayout.{StructLayout}
 use Rattle.wgsl_core.specs.declared.operators.resolve.ResolvedType.{ResolvedType}
+use Rattle.wgsl_core.specs.declared.ty.StructMemberType.{StructMemberType}
 use Rattle.wgsl_core.specs.internal.Resolution.{resolved_view}
+use Rattle.wgsl_requests.specs.Texts.{member_line}
+use Rattle.wgsl_types.specs.declared.typed.Typed.{Typed}
 use Rattle.wgsl_requests.specs.declared.requests.Call.{Call}
 use Rattle.wgsl_requests.specs.declared.requests.Form.{Form}
 use Rattle.wgsl_requests.specs.declared.requests.Form.TheVariants as forms
@@ -18,9 +22,8 @@ use Rattle.wgsl_requests.specs.declared.answers.Answer.{Answer}
 use Rattle.wgsl_requests.specs.declared.answers.Answer.TheVariants as answers
 use Rattle.wgsl_calls.specs.Calls.{signature_of}
 use Rattle.wgsl_standard.specs.declared.operand.Operand.{Operand as CodeOperand}
-use Rattle.wgsl_requests.specs.Calls.{WgslCall}
-use Rattle.wgsl_requests.specs.Forms.{WgslForm, member_of, index_of, load_of, declaration_of, override_of, assignment_of, increment_of, discard_of, construct_of, switch_of, address_of, indirection_of, array_of, typed_array_of, variable_of, initialized_of}
-use Rattle.wgsl_requests.specs.Requests.{WgslRequest, rank, unary, binary, size, offsets, layout, ctor, call, type_of, resolution_of, explanation_of, overloads_of, form_of, fit_of}
+use Rattle.wgsl_requests.specs.Standard.{WgslCall}
+use Rattle.wgsl_requests.specs.Requests.{WgslForm, member_of, index_of, load_of, declaration_of, override_of, assignment_of, increment_of, discard_of, construct_of, switch_of, address_of, indirection_of, array_of, typed_array_of, variable_of, initialized_of, WgslRequest, rank, unary, binary, size, offsets, layout, ctor, call, type_of, resolution_of, explanation_of, overloads_of, form_of, fit_of}
 use Rattle.wgsl_requests.specs.Answers.{WgslAnswer, WgslLayout, a_number, a_size, a_type, a_value, some_offsets, a_layout, a_type_of, a_resolution_of, some_lines, a_form_type, a_fit, out_of_memory}
 
 -- an operand as it is written
@@ -107,3 +110,23 @@ answer_view (answers.Overloads lines) = some_lines (map line_of lines.items)
 answer_view (answers.Notes notes) = some_lines (map note_text notes.items)
 answer_view (answers.FormType r) = a_form_type (form_answer form_type_view r)
 answer_view (answers.Fit r) = a_fit (form_answer (λ u. tt) r)
+
+-- P holds of the refusal; out of memory is none
+abbrev pub IsRefusal : (Refusal → Type 0) → Fail Error → Type 0
+IsRefusal P (fails.Error e) = P (refusal e)
+IsRefusal P (fails.Memory e) = ⊥
+
+-- the line of a member with its layout
+abbrev pub placed_line : StructMemberType → PlacedMember → List ℕ
+placed_line m p = let seen = member_view m in member_line p.offset p.size p.align seen.name seen.ty
+
+-- a line for each member that has a layout
+abbrev pub placed_lines : List StructMemberType → List PlacedMember → List ℕ
+placed_lines (m ∷ ms) (p ∷ ps) = placed_line m p ++ placed_lines ms ps
+placed_lines ms ps = []
+
+-- the type of the first value, if there is one
+abbrev pub first_type_of : Option (List Typed) → Option WgslType
+first_type_of (Some (x ∷ xs)) = Some (view x.ty)
+first_type_of (Some []) = None
+first_type_of None = None

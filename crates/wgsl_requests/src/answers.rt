@@ -1,16 +1,5 @@
 // What is answered.
-use crate::requests::Call;
-use wgsl_core::error::{Error, Fail};
-use wgsl_core::layout::StructLayout;
-use wgsl_core::operators::resolve::ResolvedType;
-use wgsl_core::ty::{StructType, Type};
-use wgsl_forms::form::FormType;
-use wgsl_forms::refusal::Refusal;
-use wgsl_standard::explanation::Note;
-use wgsl_standard::resolved::ResolvedCall;
-use wgsl_standard::signature::Signature;
-use wgsl_standard::substitution::ResultType;
-use wgsl_syntax::operator::BinaryOperator;
+use crate::prelude::*;
 
 /// The answer to a request.
 #[derive(Drop)]

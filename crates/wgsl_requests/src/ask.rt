@@ -4,22 +4,16 @@ ghost use Rattle.wgsl_requests.specs.Answers.{Answers};
 ghost use Rattle.wgsl_requests.specs.Prelude.{IsOperatorAnswer, IsAnswered, view};
 ghost use Rattle.wgsl_requests.specs.Views.{answer_view, binary_view, request_view};
 
-use crate::answers::{Answer, Operands};
 use crate::forms::type_of_form;
-use crate::reply::Made;
-use crate::requests::Request;
+use crate::prelude::*;
 use crate::standard::{notes_on, resolution_of, signatures_named, type_of};
-use std::alloc::{AllocError, Global};
 use wgsl_calls::call::type_builtin_fn;
 use wgsl_calls::constructor::type_ctor;
 use wgsl_core::conversion::conversion_rank;
-use wgsl_core::error::{Error, Fail};
-use wgsl_core::operators::resolve::{ResolvedType, resolve_operator};
+use wgsl_core::operators::resolve::resolve_operator;
 use wgsl_core::operators::type_unary_op;
-use wgsl_core::ty::Type;
 use wgsl_forms::lists::fit;
 use wgsl_standard::meant::unknown_name;
-use wgsl_syntax::operator::BinaryOperator;
 
 /// The answer to the request.
 #[inline(always)]

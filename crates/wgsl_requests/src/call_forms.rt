@@ -1,18 +1,12 @@
 // Calls that are forms: `&x`, `*x` and `array(x, y)`, which have no overloads.
 ghost use Rattle.std.specs.Prelude.{◌≡◌, ◌∷◌, [], map, option_map};
 ghost use Rattle.wgsl_requests.specs.Prelude.{parameter_view, view};
-ghost use Rattle.wgsl_requests.specs.CallForms.{array_form as array_there, array_parameters as parameters_there, constructor_form as constructor_there, form_of_call, unary_form as unary_there};
-ghost use Rattle.wgsl_requests.specs.Forms.{typed_array_of};
+ghost use Rattle.wgsl_requests.specs.Requests.{array_form as array_there, array_parameters as parameters_there, constructor_form as constructor_there, form_of_call, unary_form as unary_there, typed_array_of};
 ghost use Rattle.wgsl_requests.specs.Views.{call_view, form_view, written_view};
 
-use crate::requests::{Call, Form};
+use crate::prelude::*;
+use crate::requests::Form;
 use wgsl_calls::template::array::element_count;
-use wgsl_core::signature::TpltParam;
-use wgsl_core::ty::Type;
-use wgsl_forms::form::Referent;
-use wgsl_standard::callee::Callee;
-use wgsl_standard::operand::Operand;
-use wgsl_syntax::operator::UnaryOperator;
 
 /// The form that a call is: `&x`, `*x` or an array constructor. None if it has overloads, or if the template of an `array`
 /// isn't a type, or a type and a number above 0.

@@ -1,25 +1,22 @@
 // Forms that have no overloads.
 ghost use Rattle.std.specs.Prelude.{◌≡◌};
 ghost use Rattle.wgsl_requests.specs.Prelude.{view, given_type, answer_view, form_type_view, form_view as expression_view, unbuilt_view};
-ghost use Rattle.wgsl_requests.specs.Forms.{IsFormType, of_scalar, type_alone};
+ghost use Rattle.wgsl_requests.specs.Requests.{IsFormType, of_scalar, type_alone};
 ghost use Rattle.wgsl_requests.specs.Views.{form_view};
 
+use crate::prelude::*;
 use crate::requests::Form;
-use wgsl_core::ty::Type;
 use wgsl_forms::address::{address_of, indirection};
 use wgsl_forms::array::{construct_array, construct_array_of};
 use wgsl_forms::assign::{assign_by, increment};
 use wgsl_forms::declare::{declare, discard, override_without_value};
-use wgsl_forms::form::{Element, Form as Expression, FormType, UnbuiltType};
+use wgsl_forms::form::{Element, Form as Expression, UnbuiltType};
 use wgsl_forms::index::type_of_index;
 use wgsl_forms::lists::construct_struct;
 use wgsl_forms::load::load_type;
 use wgsl_forms::member::type_of_member;
-use wgsl_forms::refusal::Refusal;
 use wgsl_forms::switch::switch_type;
 use wgsl_forms::variable::{initialized_variable, variable};
-use wgsl_standard::operand::OperandType;
-use wgsl_syntax::overload::Dimensions;
 use wgsl_syntax::scalar::Scalar;
 
 /// The type of a form, or why it has none.

@@ -4,10 +4,10 @@
 pub mod answers;
 pub mod ask;
 pub mod call_forms;
-pub mod common;
 pub mod fast;
 mod forms;
 pub mod laws;
+mod prelude;
 pub mod reply;
 pub mod requests;
 pub mod standard;

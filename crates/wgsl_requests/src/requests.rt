@@ -1,15 +1,10 @@
 // What is asked.
+use crate::prelude::*;
 pub use wgsl_calls::call::NamedCall;
-use wgsl_core::signature::TpltParam;
-use wgsl_core::ty::{StructType, Type};
 use wgsl_forms::declare::Declaration;
-use wgsl_forms::form::Referent;
 use wgsl_forms::lists::Taker;
-use wgsl_standard::callee::Callee;
-use wgsl_standard::operand::Operand;
 use wgsl_syntax::address::{AccessMode, AddressSpace};
-use wgsl_syntax::operator::{AssignmentOperator, BinaryOperator, UnaryOperator};
-use wgsl_syntax::rules::RuleSet;
+use wgsl_syntax::operator::AssignmentOperator;
 
 /// A request about the rules.
 #[derive(Clone, Copy)]

@@ -3,24 +3,15 @@ ghost use Rattle.std.specs.Prelude.{◌≡◌, ◌++◌, Err, IfOk, MatchOption,
 ghost use Rattle.wgsl_requests.specs.Prelude.{parameter_view, view, resolved_view, result_view, line_of, note_text, overload_texts, texts_listed};
 ghost use Rattle.wgsl_standard.specs.Answered.{IsRefused};
 ghost use Rattle.wgsl_standard.specs.Lines.{binary_operators_named, lines_named, unary_operators_named};
-ghost use Rattle.wgsl_requests.specs.Calls.{template_type};
-ghost use Rattle.wgsl_requests.specs.Standard.{IsExplanationOf, IsResolutionOf, IsTypeOf};
+ghost use Rattle.wgsl_requests.specs.Standard.{template_type, IsExplanationOf, IsResolutionOf, IsTypeOf};
 ghost use Rattle.wgsl_requests.specs.Views.{call_view};
 
-use crate::reply::Made;
-use crate::requests::Call;
-use std::alloc::Global;
+use crate::prelude::*;
 use std::str::FromStr;
-use wgsl_core::error::Fail;
-use wgsl_core::signature::TpltParam;
-use wgsl_core::ty::Type;
 use wgsl_standard::answer::{NoOverload, type_of_call};
-use wgsl_standard::callee::Callee;
-use wgsl_standard::explanation::{Note, explain};
-use wgsl_standard::resolved::{ResolvedCall, resolve_callee};
-use wgsl_standard::signature::{Signature, signatures};
-use wgsl_standard::substitution::ResultType;
-use wgsl_syntax::operator::{BinaryOperator, UnaryOperator};
+use wgsl_standard::explanation::explain;
+use wgsl_standard::resolved::resolve_callee;
+use wgsl_standard::signature::signatures;
 
 /// The type that a template is; None if it is something else.
 #[inline(always)]

@@ -1,34 +1,25 @@
 // How answers are written.
-ghost use Rattle.std.specs.Prelude.{◌≡◌, ◌++◌, IfOk, OnOk, decimal, option_map, string_bytes};
-ghost use Rattle.wgsl_requests.specs.Prelude.{message, spelling, spelling_by, view, element_view, answer_view as form_answer, form_type_view};
+ghost use Rattle.std.specs.Prelude.{◌≡◌, ◌++◌, IfOk, OnOk, codes, decimal, map, option_map, string_bytes};
+ghost use Rattle.wgsl_requests.specs.Prelude.{message, spelling, spelling_by, wgsl_spelling, refusal_text, view, element_view, answer_view as form_answer, form_type_view};
 ghost use Rattle.wgsl_core.specs.internal.Resolution.{resolved_view};
 ghost use Rattle.wgsl_requests.specs.Answers.{a_type, a_value};
 ghost use Rattle.wgsl_requests.specs.Replies.{Adds, IsAnswer};
-ghost use Rattle.wgsl_requests.specs.Texts.{Writes, answer_text, fit_text, form_text, or_none, text_kind};
-ghost use Rattle.wgsl_requests.specs.Views.{answer_view, operands_refusal, outcome, request_view};
-ghost use Rattle.wgsl_requests.specs.internal.Written.{IsRefusal};
+ghost use Rattle.wgsl_requests.specs.Requests as requests;
+ghost use Rattle.wgsl_requests.specs.Texts.{Writes, answer_text, or_message, or_none, text_kind};
+ghost use Rattle.wgsl_requests.specs.Views.{IsRefusal, answer_view, first_type_of, operands_refusal, outcome, request_view};
 
 mod layout;
 mod lists;
 pub mod overloads;
 pub mod word;
 
-use crate::answers::{Answer, Operands};
 use crate::ask::answer;
-use crate::fast::number::write_number;
-use crate::fast::ty::write_type;
-use crate::reply::{Made, TextKind};
-use crate::requests::Request;
+use crate::fast::{write_number, write_type};
+use crate::prelude::*;
 use layout::{write_layout, write_offsets};
 use overloads::{write_notes, write_resolution_of, write_signatures, write_type_of};
-use std::alloc::Global;
-use wgsl_core::error::{Error, Fail};
-use wgsl_core::operators::resolve::{Element, ResolvedType};
-use wgsl_core::ty::Type;
-use wgsl_forms::form::FormType;
-use wgsl_forms::refusal::Refusal;
-use wgsl_syntax::overload::Dimensions;
-use wgsl_syntax::rules::RuleSet;
+use wgsl_core::operators::resolve::Element;
+use wgsl_types::typed::{Typed, convert_to_common};
 
 /// Writes the answer to the request at the end of the text, and returns of which kind it is.
 #[inline(always)]
@@ -97,7 +88,7 @@ fn write_text(answer: &Answer<'_>, text: &mut String) -> Made<()>
 /// Writes the type of a form, or why it has none.
 #[inline(never)]
 fn write_form_type(text: &mut String, found: &Result<FormType<'_>, Refusal<'_>>) -> Made<()>
-    ensures { Writes (form_text (form_answer form_type_view found.now)) text.old text.new result }
+    ensures { Writes (or_message wgsl_spelling refusal_text (form_answer form_type_view found.now)) text.old text.new result }
 {
     match found {
         Ok(ty) => write!(text, "{ty}"),
@@ -108,7 +99,7 @@ fn write_form_type(text: &mut String, found: &Result<FormType<'_>, Refusal<'_>>)
 /// Writes that the values fit, or why they don't.
 #[inline(never)]
 fn write_fit(text: &mut String, found: &Result<(), Refusal<'_>>) -> Made<()>
-    ensures { Writes (fit_text (form_answer (λ u. tt) found.now)) text.old text.new result }
+    ensures { Writes (or_message {A = Unit {0}} (λ u. codes "fits") refusal_text (form_answer (λ u. tt) found.now)) text.old text.new result }
 {
     match found {
         Ok(()) => text.push_str("fits"),
@@ -211,4 +202,30 @@ fn write_refusal(text: &mut String, refused: &Fail<Error>) -> Made<()>
         Fail::Error(e) => write!(text, "{e}"),
         Fail::Memory(e) => Err(*e),
     }
+}
+
+/// Writes the type that all values have once they are converted together, by the names of these rules; `none` if there is
+/// none, or if one of them doesn't convert to it. Returns of which kind the text is.
+pub fn write_common(
+    alloc: Global,
+    rules: RuleSet,
+    values: &[Typed],
+    text: &mut String,
+) -> Made<TextKind>
+    ensures { IfOk result (λ kind.
+        Adds (IsAnswer (requests.common rules (map (λ x. view x.ty) values.now)) kind)
+        (string_bytes text.old) (string_bytes text.new)) }
+{
+    let converted = convert_to_common(alloc, values)?;
+    let written = write_type_or_none(text, rules, first_type(&converted));
+    drop(converted);
+    written?;
+    Ok(TextKind::Answer)
+}
+
+fn first_type(values: &Option<Vec<Typed>>) -> Option<&Type>
+    ensures { option_map (λ t. view t.now) result ≡ first_type_of (option_map (λ v. v.items) values.now) }
+{
+    let first = values.as_ref()?.first()?;
+    Some(&first.ty)
 }

@@ -1,8 +1,8 @@
 -- A line has one reply, if every request has an answer.
 use Rattle.wgsl_words.proofs.Common.{◌≡◌, ℕ, List, [], ◌∷◌, Words, words_of}
 use Rattle.wgsl_requests.specs.Replies.{ReplyText}
-use Rattle.wgsl_requests.proofs.HasOne.{HasOne, known}
-use Rattle.wgsl_requests.proofs.OneReply.{EachAnswered, one_of_line, one_reply_of}
+use Rattle.wgsl_requests.proofs.OneAnswer.{HasOne, known}
+use Rattle.wgsl_requests.proofs.OneAnswer.{EachAnswered, one_of_line, one_reply_of}
 use Rattle.wgsl_words.specs.Replies.{IsReplyToLine, IsReplyToWords}
 use Rattle.wgsl_words.specs.Requests.{request_of}
 

@@ -14,7 +14,7 @@ use std::alloc::Global;
 use wgsl_core::error::Fail;
 use wgsl_core::signature::TpltParam;
 use wgsl_core::ty::{StructType, Type};
-use wgsl_requests::common::write_common;
+use wgsl_requests::write::write_common;
 use wgsl_requests::reply::TextKind;
 use wgsl_requests::requests::{NamedCall, Request};
 use wgsl_requests::write::write_answer_to;

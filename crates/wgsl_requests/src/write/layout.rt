@@ -1,11 +1,10 @@
 // Writes the offsets of a struct's members, and its layout as a table.
 ghost use Rattle.std.specs.Prelude.{option_map};
 ghost use Rattle.wgsl_core.specs.View.{struct_view};
-ghost use Rattle.wgsl_requests.specs.Views.{layout_view};
+ghost use Rattle.wgsl_requests.specs.Views.{layout_view, placed_line, placed_lines};
 ghost use Rattle.wgsl_requests.specs.Texts.{layout_text, spaced, struct_line, Writes, or_none};
-ghost use Rattle.wgsl_requests.specs.internal.Written.{placed_line, placed_lines};
 
-use crate::fast::number::write_number;
+use crate::fast::write_number;
 use crate::reply::Made;
 use wgsl_core::layout::{PlacedMember, StructLayout};
 use wgsl_core::ty::{StructMemberType, StructType};

@@ -1,15 +1,11 @@
 // Writes lists.
-ghost use Rattle.std.specs.Prelude.{◌≡◌, ◌++◌, ℕ, List, OnOk, Some, string_bytes};
+ghost use Rattle.std.specs.Prelude.{◌≡◌, ◌++◌, ℕ, List, OnOk, Some, map, string_bytes};
 ghost use Rattle.wgsl_requests.specs.Prelude.{listed, parameter_text, wgsl_spelling, parameter_view, view};
-ghost use Rattle.wgsl_requests.specs.internal.Written.{lined};
-ghost use Rattle.wgsl_requests.specs.Texts.{Writes};
+ghost use Rattle.wgsl_requests.specs.Texts.{Writes, lines_text};
 
-use crate::fast::ty::write_type;
-use crate::reply::Made;
+use crate::fast::write_type;
+use crate::prelude::*;
 use std::fmt;
-use wgsl_core::signature::TpltParam;
-use wgsl_core::ty::Type;
-use wgsl_syntax::rules::RuleSet;
 
 /// Writes types, with a comma between, by WGSL's own names.
 pub fn write_types(text: &mut String, types: &[Type]) -> Made<()>
@@ -43,7 +39,7 @@ pub fn write_parameters(text: &mut String, parameters: &[TpltParam]) -> Made<()>
 /// Writes values, one per line; `none` if there is none.
 pub fn write_lines<T: fmt::Display>(text: &mut String, values: &[T]) -> Made<()>
     ensures { (shown : T → List ℕ) → ((x : T) → T.Display.output x ≡ Some (shown x))
-        → OnOk result (string_bytes text.new ≡ string_bytes text.old ++ lined shown values.now) }
+        → OnOk result (string_bytes text.new ≡ string_bytes text.old ++ lines_text (map shown values.now)) }
 {
     let [first, rest @ ..] = values else {
         return text.push_str("none");

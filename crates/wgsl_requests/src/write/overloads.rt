@@ -5,23 +5,11 @@ ghost use Rattle.wgsl_requests.specs.Prelude.{callee_text, line_of, note_text};
 ghost use Rattle.wgsl_requests.specs.Views.{call_view};
 ghost use Rattle.wgsl_requests.specs.Texts.{Writes, lines_text, no_candidate_text, no_overload_text, or_no_overload, resolution_text, result_text, suggestion, unknown_text, value_text};
 
-use crate::fast::ty::write_type;
-use crate::reply::Made;
-use crate::requests::Call;
+use crate::fast::write_type;
+use crate::prelude::*;
 use crate::write::lists::{write_lines, write_parameters, write_types};
 use crate::write::write_resolved;
-use wgsl_core::operators::resolve::ResolvedType;
-use wgsl_core::signature::TpltParam;
-use wgsl_core::ty::Type;
-use wgsl_standard::callee::Callee;
-use wgsl_standard::explanation::Note;
 use wgsl_standard::meant::{meant, unknown_name};
-use wgsl_standard::operand::{Operand, OperandType};
-use wgsl_standard::resolved::ResolvedCall;
-use wgsl_standard::signature::Signature;
-use wgsl_standard::substitution::ResultType;
-use wgsl_syntax::overload::Dimensions;
-use wgsl_syntax::rules::RuleSet;
 
 /// Writes the type of a call, `no value`, or that no overload takes its operands.
 #[inline(always)]

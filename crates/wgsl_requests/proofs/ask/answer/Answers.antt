@@ -1,12 +1,34 @@
-use Rattle.wgsl_requests.proofs.Shared.{ap, map, sym, ◌∙◌, option_map, struct_view, view, unary, ctor, call, list_fits, taker_view}
+use Rattle.wgsl_requests.proofs.Shared.{◌≡◌, ℕ, Vec, Global, Option, Some, None, Result, Ok, Err, refl, subst, option_map, IfSome, AllocError, RuleSet, Members}
+use Rattle.wgsl_requests.proofs.Shared.{AreOffsetsBy, HasNoSizeBy, IsLayoutOfBy, Fail, StructLayout, WgslRequest, layout_view, outcome, ap, map, sym, ◌∙◌}
+use Rattle.wgsl_requests.proofs.Shared.{struct_view, view, unary, ctor, call, list_fits, taker_view}
+use Rattle.wgsl_rules.specs.errors.Refusals.{Refusal}
+use Rattle.wgsl_core.specs.Answer.{AnswersAs, IsAnswered}
+use Rattle.wgsl_core.specs.declared.error.Error.{Error}
+use Rattle.wgsl_core.specs.declared.error.Fail.TheVariants as fails
+use Rattle.wgsl_requests.specs.Answers.{Answers, AreOffsetsOf, IsLayoutOf, WgslAnswer, a_type, a_value, rank_is, unary_is, binary_is, size_is, offsets_are, layout_is, ctor_is, call_is, type_of_is, resolution_of_is, explanation_of_is, unknown_is, overloads_of_are, form_is, fit_is}
 use Rattle.wgsl_rules.specs.operators.Answers.{IsUnaryAnswer}
 use Rattle.wgsl_rules.specs.constructors.Constructors.{IsConstructorAnswer}
 use Rattle.wgsl_rules.specs.calls.Answers.{IsCallAnswer}
-use Rattle.wgsl_requests.specs.Answers.{a_type, a_value, rank_is, unary_is, binary_is, size_is, offsets_are, layout_is, ctor_is, call_is, type_of_is, resolution_of_is, explanation_of_is, unknown_is, overloads_of_are, form_is, fit_is}
 use Rattle.wgsl_calls.specs.Calls.{signature_of}
 use Rattle.wgsl_requests.proofs.Overloaded.{same_types}
-use Rattle.wgsl_requests.proofs.Settled.{settles, offsets_seen, layout_seen}
 use Rattle.wgsl_requests.proofs.ask.answer.Goals as goal
+
+-- what the library returns, as an answer shows it
+settles : {A B : Type 0} (answered : Result B Refusal → WgslAnswer) (shown : A → B) (P : Result B Refusal → Type 0) (request : WgslRequest) {made : Result A (Fail Error)} (r : Result A (Fail Error)) →
+    (made ≡ r) × IsAnswered r → AnswersAs shown P made → ((x : Result B Refusal) → P x → Answers request (answered x)) → Answers request (outcome answered shown r)
+settles answered shown P request (Ok a) e h so = so _ (subst (AnswersAs shown P) e.0 h)
+settles answered shown P request (Err (fails.Error x)) e h so = so _ (subst (AnswersAs shown P) e.0 h)
+settles answered shown P request (Err (fails.Memory x)) e h so = absurd e.1
+
+offsets_seen : (rules : RuleSet) (ms : Members) (found : Option (Vec ℕ Global)) → (let r : Result (Option (Vec ℕ Global)) AllocError = Ok found in r ≡ Ok None → HasNoSizeBy rules ms) → IfSome found (λ v. AreOffsetsBy rules ms v.items) →
+    AreOffsetsOf rules ms (option_map (λ v. v.items) found)
+offsets_seen rules ms (Some v) none some = some
+offsets_seen rules ms None none some = none refl
+
+layout_seen : (rules : RuleSet) (ms : Members) (found : Option StructLayout) → (let r : Result (Option StructLayout) AllocError = Ok found in r ≡ Ok None → HasNoSizeBy rules ms) → IfSome found (IsLayoutOfBy rules ms) →
+    IsLayoutOf rules ms (option_map layout_view found)
+layout_seen rules ms (Some l) none some = some
+layout_seen rules ms None none some = none refl
 
 pub returns-in-Rank : goal.returns-in-Rank
 returns-in-Rank c = rw c.in-Rank.is (rank_is _ c.conversion_rank.ensures)

@@ -1,6 +1,5 @@
 use Rattle.wgsl_requests.proofs.Shared.{codes, string_bytes, on_ok_weaker}
-use Rattle.wgsl_requests.proofs.Listings.{refusal_written}
-use Rattle.wgsl_requests.proofs.Digits.{pushed}
+use Rattle.wgsl_requests.proofs.Listings.{refusal_written, pushed}
 use Rattle.wgsl_requests.proofs.write.overloads.write_no_candidate.Goals as goal
 
 pub returns : goal.returns

@@ -1,6 +1,5 @@
 use Rattle.wgsl_requests.proofs.Shared.{◌∙◌, codes, on_ok_weaker}
-use Rattle.wgsl_requests.proofs.Listings.{template_written}
-use Rattle.wgsl_requests.proofs.Digits.{pushed}
+use Rattle.wgsl_requests.proofs.Listings.{template_written, pushed}
 use Rattle.wgsl_requests.proofs.write.overloads.write_template.Goals as goal
 
 pub returns-in_ok-write_parameters-in-Some : goal.returns-in_ok-write_parameters-in-Some

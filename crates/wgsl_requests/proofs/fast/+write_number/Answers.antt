@@ -1,7 +1,7 @@
 use Rattle.wgsl_requests.proofs.Shared.{◌≡◌, ◌∙◌, ◌+◌, ◌%◌, ◌∷◌, ◌++◌, [], ap, arith, decimal, string_bytes, on_ok_weaker}
-use Rattle.wgsl_requests.proofs.Digits.{last_digit, one_digit, pushed}
-use Rattle.wgsl_requests.proofs.fast.number.+write_number.Goals.{then-number-ge10+in_ok-write_number, else-number-ge10}
-use Rattle.wgsl_requests.proofs.fast.number.+write_number.Goals as goal
+use Rattle.wgsl_requests.proofs.Listings.{last_digit, one_digit, pushed}
+use Rattle.wgsl_requests.proofs.fast.+write_number.Goals.{then-number-ge10+in_ok-write_number, else-number-ge10}
+use Rattle.wgsl_requests.proofs.fast.+write_number.Goals as goal
 
 pub returns : goal.returns
 returns t c =

@@ -1,4 +1,3 @@
--- Values that convert together have their common type.
 use Rattle.wgsl_requests.proofs.Shared.{◌≡◌, ℕ, List, [], ◌∷◌, Option, Some, None, map, refl, sym, ap, subst, ◌∙◌, option_and_then, option_map, WgslType}
 use Rattle.wgsl_requests.proofs.Shared.{ConvertsTo, left_common_once, receives_nil, receives_cons, receives_head, receives_tail, view}
 use Rattle.wgsl_rules.specs.conversion.Common.{IsLeftCommon, of_no_types}
@@ -9,13 +8,15 @@ use Rattle.wgsl_core.specs.Converted.{converted}
 use Rattle.wgsl_core.proofs.Converted.{converted_some, converted_none}
 use Rattle.wgsl_types.specs.Typed.{on_line, typed, typed_to}
 use Rattle.wgsl_types.specs.declared.typed.Typed.{Typed}
-use Rattle.wgsl_requests.specs.Answers.{IsReceivedCommon}
-use Rattle.wgsl_requests.specs.internal.Written.{first_type_of}
+use Rattle.wgsl_requests.specs.Answers.{IsReceivedCommon, common_is}
+use Rattle.wgsl_requests.specs.Views.{first_type_of}
+use Rattle.wgsl_requests.proofs.write.write_common.Goals as goal
 
+-- values that convert together have their common type
 abbrev Lines : Type 0
 Lines = List (WgslType × ℕ)
 
-abbrev pub types_of : List Typed → List WgslType
+abbrev types_of : List Typed → List WgslType
 types_of = map (λ (x : Typed). view x.ty)
 
 -- each value converts to t, and what it becomes is t on its line
@@ -52,7 +53,7 @@ received_convert t (x ∷ xs) g =
     ap (λ o. onto x o (all_to typed_to t xs)) (converted_some (view x.ty) t c) ∙ ap (λ r. onto x (Some t) r) more
 
 -- the first of the converted values has the common type to which all convert; without one there is none
-pub first_received : {V : Type 0} (items : V → List Typed) (xs : List Typed) (r : Option V) (c : Option WgslType) → IsLeftCommon (types_of xs) c →
+first_received : {V : Type 0} (items : V → List Typed) (xs : List Typed) (r : Option V) (c : Option WgslType) → IsLeftCommon (types_of xs) c →
     option_map (λ v. map typed (items v)) r ≡ option_and_then (λ t. all_to typed_to t xs) c → IsReceivedCommon (types_of xs) (first_type_of (option_map items r))
 first_received items xs None None h e = λ t k g. let q : None ≡ Some t = left_common_once (types_of xs) None (Some t) h k in absurd (cc q)
 first_received items xs None (Some c) h e = λ t k g.
@@ -69,3 +70,9 @@ first_received items xs (Some v) (Some c) h e = at xs (items v) h (all_converted
         let k : typed y ≡ (c, x.line) = cc m.kept in
         let s : c ≡ view y.ty = sym (ap (λ (p : WgslType × ℕ). p.0) k) in
         subst (λ t. IsReceivedCommon (types_of (x ∷ xs)) (Some t)) s (h, m.receives)
+
+pub returns : goal.returns
+returns c =
+    let all = c.in_ok-converted.ensures.value in
+    let received = first_received (λ v. v.items) c.args.values.now c.in_ok-converted.converted all.0 all.1 all.2 in
+    (_, (_, common_is _ (subst (λ t. IsReceivedCommon (types_of c.args.values.now) t) (sym c.first_type.ensures) received), refl, refl), c.in_ok-written.ensures)

@@ -1,4 +1,4 @@
-use Rattle.wgsl_requests.proofs.fast.number.+write_number.Given as goal
+use Rattle.wgsl_requests.proofs.fast.+write_number.Given as goal
 
 abbrev pub decreases-write_number : goal.decreases-write_number
 decreases-write_number l = l.number

@@ -1,0 +1,21 @@
+// Names that several files of this crate use.
+pub(crate) use crate::answers::{Answer, Operands};
+pub(crate) use crate::reply::{Made, TextKind};
+pub(crate) use crate::requests::{Call, Request};
+pub(crate) use std::alloc::{AllocError, Global};
+pub(crate) use wgsl_core::error::{Error, Fail};
+pub(crate) use wgsl_core::layout::StructLayout;
+pub(crate) use wgsl_core::operators::resolve::ResolvedType;
+pub(crate) use wgsl_core::signature::TpltParam;
+pub(crate) use wgsl_core::ty::{StructType, Type};
+pub(crate) use wgsl_forms::form::{FormType, Referent};
+pub(crate) use wgsl_forms::refusal::Refusal;
+pub(crate) use wgsl_standard::callee::Callee;
+pub(crate) use wgsl_standard::explanation::Note;
+pub(crate) use wgsl_standard::operand::{Operand, OperandType};
+pub(crate) use wgsl_standard::resolved::ResolvedCall;
+pub(crate) use wgsl_standard::signature::Signature;
+pub(crate) use wgsl_standard::substitution::ResultType;
+pub(crate) use wgsl_syntax::operator::{BinaryOperator, UnaryOperator};
+pub(crate) use wgsl_syntax::overload::Dimensions;
+pub(crate) use wgsl_syntax::rules::RuleSet;
