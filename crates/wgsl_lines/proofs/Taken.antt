@@ -5,7 +5,7 @@ use Rattle.wgsl_lines.proofs.Common.{take, take_all, list_all, long_line, one_li
 use Rattle.wgsl_lines.proofs.Common.{printed, printed_from, number_after, RuleSet, string_bytes, All-append, All-nil, AllZip, Write, Memory, Session, Prints}
 use Rattle.wgsl_lines.proofs.Common.{PrintsLines, PrintsUntil, PrintsUpTo, AnswersLine, HasTaken, IsAtStart, StopsAfter}
 use Rattle.std.proofs.lemmas.Bool.{ne_eqb, leb-true, leb-false}
-use Rattle.wgsl_words.specs.Words.{into_first}
+use Rattle.wgsl_words.specs.Reader.{into_first}
 use Rattle.std.proofs.lemmas.List.Folds.{list_all-append}
 use Rattle.std.proofs.lemmas.Slice.Zip.{all_zipped_more}
 

@@ -7,8 +7,8 @@ use Rattle.wgsl_requests.specs.declared.reply.TextKind.{TextKind}
 use Rattle.wgsl_requests.specs.declared.reply.TextKind.TheVariants as kinds
 use Rattle.wgsl_syntax.specs.declared.rules.RuleSet.{RuleSet}
 use Rattle.wgsl_syntax.specs.declared.rules.RuleSet.TheVariants.{Ported, Standard}
-use Rattle.wgsl_words.specs.Replies.{IsReplyToLine as IsReplyToWords}
-use Rattle.wgsl_words.specs.Words.{words_of}
+use Rattle.wgsl_words.specs.Requests.{IsReplyToLine as IsReplyToWords}
+use Rattle.wgsl_words.specs.Reader.{words_of}
 use Rattle.wgsl_expressions.specs.Replies.{IsBlank as has_no_tokens, IsStandardReply}
 use Rattle.wgsl_words.specs.declared.why.Why.TheVariants as words
 use Rattle.wgsl_expressions.specs.declared.why.Why.TheVariants as line

@@ -2,7 +2,7 @@
 ghost use Rattle.std.specs.Prelude.{◌≡◌, ◌<◌, ◌≤◌, [], IfOk, IsOkAnd, IsUtf8, Ok, length, true};
 ghost use Rattle.wgsl_requests.specs.Replies as replies;
 ghost use Rattle.wgsl_requests.specs.Replies.{IsUnreadable, Replies};
-ghost use Rattle.wgsl_words.specs.Words.{words_of};
+ghost use Rattle.wgsl_words.specs.Reader.{words_of};
 ghost use Rattle.wgsl_replies.specs.Replies.{IsBlank, IsExplanation, IsReplyTo, IsReplyToLine, reply_text, too_long, why_seen};
 
 use std::alloc::{AllocError, Global};

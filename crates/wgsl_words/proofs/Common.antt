@@ -1,6 +1,6 @@
 -- Names of these specifications and of other crates that many proofs cite, passed on from one place. It declares nothing.
 pub use Rattle.std.proofs.Common.{cond, drop, FitsSigned, get_or, IsErrAnd, IsUtf8, length-set, ltb, nat_eq, neg_ℤ, negsuc, not, pos, set, ℤ, ◌*◌, ◌==◌, ◌≢◌}
-pub use Rattle.std.proofs.Common.{◌≤◌}
+pub use Rattle.std.proofs.Common.{◌&&◌, ◌≤◌}
 pub use Rattle.std.proofs.lemmas.Bool.{lt-ltb, ltb-true, not-false}
 pub use Rattle.std.proofs.lemmas.Grind.{common_steps}
 pub use Rattle.std.proofs.lemmas.List.{drop-drop, length-drop, map-append, nil_from_length}
@@ -19,14 +19,11 @@ pub use Rattle.wgsl_requests.proofs.Shared.{◌≡◌}
 pub use Rattle.wgsl_rules.specs.types.Around.{around}
 pub use Rattle.wgsl_rules.specs.types.Types.{scalar, struct}
 pub use Rattle.wgsl_words.specs.Types.{in_layer, inside, layers, rays, wrapped}
-pub use Rattle.wgsl_words.specs.Names.{sampler_named}
-unfoldable pub use Rattle.wgsl_words.specs.Names.{scalar_named}
-pub use Rattle.wgsl_words.specs.Numbers.{number_below}
-unfoldable pub use Rattle.wgsl_words.specs.Numbers.{long, medium, small}
+pub use Rattle.wgsl_words.specs.Names.{number_below, sampler_named}
+unfoldable pub use Rattle.wgsl_words.specs.Names.{scalar_named, long, medium, small}
 pub use Rattle.wgsl_words.specs.Reader.{a_word, all_behind, all_within, alone, and_then, Gives, last, means, Misses, one, optional, or_else, pair, pure, Reader}
-pub use Rattle.wgsl_words.specs.Reader.{Reads, times, Words, ◌<$>◌, ◌>>=◌}
+pub use Rattle.wgsl_words.specs.Reader.{has_bytes, is_separator, IsFirstWord, pieces, Reads, times, Words, words_of, ◌<$>◌, ◌>>=◌}
 unfoldable pub use Rattle.wgsl_words.specs.Reader.{all}
 unfoldable pub use Rattle.wgsl_words.specs.Types.{layer_named, leaf_from, member_at, memory_at, other_from, parameters_at, rays_named, struct_at, texture_from}
 unfoldable pub use Rattle.wgsl_words.specs.Types.{type_at, type_from, type_within}
-pub use Rattle.wgsl_words.specs.Words.{has_bytes, is_separator, IsFirstWord, pieces, words_of}
 pub use mir.Syntax.{w32, w64, Width}

@@ -111,23 +111,22 @@ words_of-first bytes rest gap len at is ends h =
 no_line_feed : (b : ℕ) → is_separator b ≡ true → is_line_feed b ≡ false
 no_line_feed b e = grind (arith, common_steps, e)
 
--- bytes without a word are separators, so none is a line feed
-pub blank-no_line_feed : (bytes : List ℕ) → words_of bytes ≡ [] → has_line_feed bytes ≡ false
-blank-no_line_feed [] none = refl
-blank-no_line_feed (b ∷ bs) none = step (is_separator b) refl (blank-no_line_feed bs)
+-- what holds of no bytes, and of one more separator, holds of bytes without a word
+of_blank : (P : List ℕ → Type 0) → P [] → ((b : ℕ) (bs : List ℕ) → is_separator b ≡ true → P bs → P (b ∷ bs)) → (bytes : List ℕ) → words_of bytes ≡ [] → P bytes
+of_blank P empty more [] none = empty
+of_blank P empty more (b ∷ bs) none = step (is_separator b) refl (of_blank P empty more bs)
   where
-    step : (v : Bool) → is_separator b ≡ v → (words_of bs ≡ [] → has_line_feed bs ≡ false) → has_line_feed (b ∷ bs) ≡ false
-    step true e rest = rw (no_line_feed b e) (rest (sym (words-cut is_separator b bs e) ∙ none))
+    step : (v : Bool) → is_separator b ≡ v → (words_of bs ≡ [] → P bs) → P (b ∷ bs)
+    step true e rest = more b bs e (rest (sym (words-cut is_separator b bs e) ∙ none))
     step false e rest = let never : ⊥ = cc (sym (words-word is_separator b bs e) ∙ none) in absurd never
+
+-- separators have no line feed
+pub blank-no_line_feed : (bytes : List ℕ) → words_of bytes ≡ [] → has_line_feed bytes ≡ false
+blank-no_line_feed = of_blank (λ bytes. has_line_feed bytes ≡ false) refl (λ b bs e rest. rw (no_line_feed b e) rest)
 
 -- the separators in front of bytes without a word are all of them
 pub blank-gap : (bytes : List ℕ) → words_of bytes ≡ [] → gap_len is_separator bytes ≡ length bytes
-blank-gap [] none = refl
-blank-gap (b ∷ bs) none = step (is_separator b) refl (blank-gap bs)
-  where
-    step : (v : Bool) → is_separator b ≡ v → (words_of bs ≡ [] → gap_len is_separator bs ≡ length bs) → gap_len is_separator (b ∷ bs) ≡ length (b ∷ bs)
-    step true e rest = rw e (omega (arith, rest (sym (words-cut is_separator b bs e) ∙ none)))
-    step false e rest = let never : ⊥ = cc (sym (words-word is_separator b bs e) ∙ none) in absurd never
+blank-gap = of_blank (λ bytes. gap_len is_separator bytes ≡ length bytes) refl (λ b bs e rest. rw e (omega (arith, rest)))
 
 separator_ascii : (b : ℕ) → is_separator b ≡ true → b < 128
 separator_ascii b e = grind (arith, common_steps, e)
@@ -196,9 +195,4 @@ ascii_one b e (suc n) = omega arith
 
 -- separators alone are UTF-8
 pub blank_text : (bytes : List ℕ) → words_of bytes ≡ [] → IsUtf8 bytes
-blank_text [] none = IsUtf8-nil
-blank_text (b ∷ bs) none = step (is_separator b) refl (blank_text bs)
-  where
-    step : (v : Bool) → is_separator b ≡ v → (words_of bs ≡ [] → IsUtf8 bs) → IsUtf8 (b ∷ bs)
-    step true e rest = IsUtf8-append (b ∷ []) bs (IsUtf8-from_ascii (b ∷ []) (ascii_one b (separator_ascii b e))) (rest (sym (words-cut is_separator b bs e) ∙ none))
-    step false e rest = let never : ⊥ = cc (sym (words-word is_separator b bs e) ∙ none) in absurd never
+blank_text = of_blank IsUtf8 IsUtf8-nil (λ b bs e rest. IsUtf8-append (b ∷ []) bs (IsUtf8-from_ascii (b ∷ []) (ascii_one b (separator_ascii b e))) rest)

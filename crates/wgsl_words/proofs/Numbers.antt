@@ -1,7 +1,7 @@
 -- What parsing gives is what the digits count, with a sign or without, and with a suffix or without.
 use Rattle.wgsl_words.proofs.Common.{◌≡◌, ◌≢◌, ◌<◌, ◌^◌, ℕ, Bool, true, false, ltb, List, [], ◌∷◌, length, Some, None, Result, Ok, Err, refl, sym, ap, arith}
 use Rattle.wgsl_words.proofs.Common.{rules, slice_index, OkIff, result_ok, all_ascii_digits, ltb-true, lt-ltb, number_below, has_bytes, ◌==◌, ℤ, pos, negsuc}
-use Rattle.wgsl_words.proofs.Common.{neg_ℤ, cond, drop, FitsSigned, subst, ◌∙◌, Width, nat_eq, codes, option_map, ends_with}
+use Rattle.wgsl_words.proofs.Common.{neg_ℤ, cond, ◌&&◌, drop, FitsSigned, subst, ◌∙◌, Width, nat_eq, codes, option_map, ends_with}
 use Rattle.std.specs.Str.Parse.{ParsesUnsigned, digits_value, IsNumeral, ParsesSigned, signed_digits_value, starts_with_minus, without_leading_plus, without_leading_sign}
 use Rattle.std.proofs.lemmas.Str.Parse.{IsNumeralModel, numerals_by_value, parse_plain}
 use mir.Val.{hbits}
@@ -23,14 +23,13 @@ pub if_bytes : (word : List ℕ) → has_bytes word ≡ true → 0 < length word
 if_bytes [] e = absurd (cc e)
 if_bytes (c ∷ cs) e = omega arith
 
+-- what fails one of three tests is none
+none_of : {A : Type 0} (x : A) (a b c : Bool) → ¬ ((a ≡ true) × (b ≡ true) × (c ≡ true)) → cond (a && b && c) (Some x) None ≡ None
+none_of x true true true not_all = absurd (not_all (refl, refl, refl))
+none_of x a b c not_all = refl
+
 none_below : (limit : ℕ) (word : List ℕ) → ¬ ((all_ascii_digits word ≡ true) × (0 < length word) × (digits_value 10 word < limit)) → number_below limit word ≡ None
-none_below limit word not_all = step (has_bytes word) (all_ascii_digits word) (ltb (digits_value 10 word) limit) refl refl refl
-  where
-    step : (a b c : Bool) → has_bytes word ≡ a → all_ascii_digits word ≡ b → ltb (digits_value 10 word) limit ≡ c → number_below limit word ≡ None
-    step true true true d e f = absurd (not_all (e, if_bytes word d, ltb-true _ _ f))
-    step true true false d e f = rw (d, e, f) refl
-    step true false c d e f = rw (d, e) refl
-    step false b c d e f = rw d refl
+none_below limit word not_all = none_of _ (has_bytes word) (all_ascii_digits word) (ltb (digits_value 10 word) limit) (λ all. not_all (all.1, if_bytes word all.0, ltb-true _ _ all.2))
 
 below : {E : Type 0} (limit : ℕ) (word : List ℕ) (r : Result ℕ E) → OkIff r ((all_ascii_digits word ≡ true) × (0 < length word) × (digits_value 10 word < limit)) (digits_value 10 word) → result_ok r ≡ number_below limit word
 below limit word (Ok x) h = rw (bytes_if word h.0.1, h.0.0, lt-ltb _ _ h.0.2) (ap Some h.1)
@@ -68,13 +67,9 @@ module _ (w : Width) (word : List ℕ) (plain : slice_index word 0 ≢ 43) where
   within_fits (negsuc n) e = record { sfits = ltb-true _ _ e }
 
   none_signed : ¬ (IsNumeral 10 (without_minus word) × FitsSigned w (value word)) → signed_below (2 ^ hbits w) word ≡ None
-  none_signed not_all = step (has_bytes (without_minus word)) (all_ascii_digits (without_minus word)) (within (2 ^ hbits w) (value word)) refl refl refl
-    where
-      step : (a b c : Bool) → has_bytes (without_minus word) ≡ a → all_ascii_digits (without_minus word) ≡ b → within (2 ^ hbits w) (value word) ≡ c → signed_below (2 ^ hbits w) word ≡ None
-      step true true true d e f = absurd (not_all ((if_bytes _ d, digits.to _ e), within_fits _ f))
-      step true true false d e f = rw (d, e, f) refl
-      step true false c d e f = rw (d, e) refl
-      step false b c d e f = rw d refl
+  none_signed not_all =
+      none_of _ (has_bytes (without_minus word)) (all_ascii_digits (without_minus word)) (within (2 ^ hbits w) (value word))
+      (λ all. not_all ((if_bytes _ all.0, digits.to _ all.1), within_fits _ all.2))
 
   pub signed_parsed : {E : Type 0} (r : Result ℤ E) → ParsesSigned w 10 word r → result_ok r ≡ signed_below (2 ^ hbits w) word
   signed_parsed (Ok x) h =
@@ -83,13 +78,13 @@ module _ (w : Width) (word : List ℕ) (plain : slice_index word 0 ≢ 43) where
       rw (bytes_if _ n.0, digits.from _ n.1, fits_within _ f) (ap Some (h.1 ∙ value_is))
   signed_parsed (Err e) h = sym (none_signed (λ all. h (subst (IsNumeral 10) (sym sign_is) all.0, subst (FitsSigned w) (sym value_is) all.1)))
 
-pub no_before : (suffix word : List ℕ) → false ≡ ends_with nat_eq word suffix → before suffix word ≡ None
+no_before : (suffix word : List ℕ) → false ≡ ends_with nat_eq word suffix → before suffix word ≡ None
 no_before suffix word e = rw (← e) refl
 
-pub no_short_suffix : (word : List ℕ) → before (codes "i") word ≡ None → before (codes "u") word ≡ None → short_number word ≡ option_map abstract_int (signed_below 9223372036854775808 word)
+pub no_short_suffix : (word : List ℕ) → false ≡ ends_with nat_eq word (codes "i") → false ≡ ends_with nat_eq word (codes "u") → short_number word ≡ option_map abstract_int (signed_below 9223372036854775808 word)
 unfolding short_number
-no_short_suffix word e f = rw (e, f) refl
+no_short_suffix word e f = rw (no_before (codes "i") word e, no_before (codes "u") word f) refl
 
-pub no_long_suffix : (word : List ℕ) → before (codes "li") word ≡ None → before (codes "lu") word ≡ None → number word ≡ short_number word
+pub no_long_suffix : (word : List ℕ) → false ≡ ends_with nat_eq word (codes "li") → false ≡ ends_with nat_eq word (codes "lu") → number word ≡ short_number word
 unfolding number
-no_long_suffix word e f = rw (e, f) refl
+no_long_suffix word e f = rw (no_before (codes "li") word e, no_before (codes "lu") word f) refl

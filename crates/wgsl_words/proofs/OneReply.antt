@@ -1,10 +1,8 @@
 -- A line has one reply, if every request has an answer.
 use Rattle.wgsl_words.proofs.Common.{◌≡◌, ℕ, List, [], ◌∷◌, Words, words_of}
 use Rattle.wgsl_requests.specs.Replies.{ReplyText}
-use Rattle.wgsl_requests.proofs.OneAnswer.{HasOne, known}
-use Rattle.wgsl_requests.proofs.OneAnswer.{EachAnswered, one_of_line, one_reply_of}
-use Rattle.wgsl_words.specs.Replies.{IsReplyToLine, IsReplyToWords}
-use Rattle.wgsl_words.specs.Requests.{request_of}
+use Rattle.wgsl_requests.proofs.OneAnswer.{HasOne, known, EachAnswered, one_of_line, one_reply_of}
+use Rattle.wgsl_words.specs.Requests.{IsReplyToLine, IsReplyToWords, request_of}
 
 one_to_words : (words : Words) → HasOne EachAnswered (IsReplyToWords words)
 one_to_words [] = known _

@@ -1,10 +1,7 @@
 pub mod Prelude
 pub mod Left
 pub mod Names
-pub mod Numbers
 pub mod Reader
-pub mod Replies
 pub mod Requests
 pub mod Templates
 pub mod Types
-pub mod Words

@@ -1,6 +1,6 @@
--- What a word names.
-use Rattle.std.specs.Prelude.{ℕ, List, Option, Some, None, codes, if◌then◌else◌, option_map, bytes_eq}
-use Rattle.wgsl_words.specs.Prelude.{named, table, texture_name_text, texture_names, AccessMode, AddressSpace}
+-- What a word names or counts.
+use Rattle.std.specs.Prelude.{ℕ, List, Option, Some, None, codes, if◌then◌else◌, option_map, bytes_eq, ◌^◌, ◌&&◌, nat_lt}
+use Rattle.wgsl_words.specs.Prelude.{named, table, texture_name_text, texture_names, AccessMode, AddressSpace, all_ascii_digits, digits_value}
 use Rattle.wgsl_syntax.specs.Address.{access_modes, access_text, space_text, spaces}
 use Rattle.wgsl_syntax.specs.Attribute.{flag_text, flags}
 use Rattle.wgsl_syntax.specs.Operator.{binary_operators, binary_text, unary_operators, unary_text}
@@ -15,6 +15,7 @@ use Rattle.wgsl_syntax.specs.declared.texel.TexelFormat.{TexelFormat}
 use Rattle.wgsl_syntax.specs.declared.texture.SampledType.{SampledType}
 use Rattle.wgsl_syntax.specs.declared.texture.SamplerType.{SamplerType}
 use Rattle.wgsl_syntax.specs.declared.texture_name.TextureName.{TextureName}
+use Rattle.wgsl_words.specs.Reader.{has_bytes}
 
 unfoldable pub scalar_named : List ℕ → Option Scalar
 scalar_named word = named (table scalar_text scalars) word
@@ -50,3 +51,27 @@ unary_named word = named (table unary_text unary_operators) word
 
 unfoldable pub binary_named : List ℕ → Option BinaryOperator
 binary_named word = named (table binary_text binary_operators) word
+
+-- decimal digits, with leading zeros or without, of a number below the limit
+abbrev pub number_below : ℕ → List ℕ → Option ℕ
+number_below limit word = if has_bytes word && all_ascii_digits word && nat_lt (digits_value 10 word) limit then Some (digits_value 10 word) else None
+
+-- a number of components, columns or rows
+unfoldable pub small : List ℕ → Option ℕ
+small word = number_below (2 ^ 8) word
+
+-- a number of bytes
+unfoldable pub medium : List ℕ → Option ℕ
+medium word = number_below (2 ^ 32) word
+
+-- a number of elements or members
+unfoldable pub long : List ℕ → Option ℕ
+long word = number_below (2 ^ 64) word
+
+-- a number of elements, or `*` if the array is runtime-sized
+unfoldable pub count : List ℕ → Option (Option ℕ)
+count word = if bytes_eq word (codes "*") then Some None else option_map Some (long word)
+
+-- an attribute of a member, or `-` if it has none
+unfoldable pub attribute : List ℕ → Option (Option ℕ)
+attribute word = if bytes_eq word (codes "-") then Some None else option_map Some (medium word)

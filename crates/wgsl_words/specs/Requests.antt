@@ -1,14 +1,16 @@
--- Requests in words, and how calls and structs that were read are seen.
-use Rattle.std.specs.Prelude.{ℕ, List, [], ◌∷◌, Option, Some, None, codes, option_and_then, option_map, map}
+-- Requests in words, how calls and structs that were read are seen, and what is written for a request.
+use Rattle.std.specs.Prelude.{ℕ, List, [], ◌∷◌, Option, Some, None, codes, option_and_then, option_map, map, ◌≡◌, Result, Ok, Err, String, string_bytes}
 use Rattle.wgsl_words.specs.Prelude.{named, Signature, WgslType, struct, Members, WgslRequest as Request, rank, common, unary, binary, size, offsets, layout}
-use Rattle.wgsl_words.specs.Prelude.{ctor, call, parameter_view, struct_view, view}
+use Rattle.wgsl_words.specs.Prelude.{ctor, call, parameter_view, struct_view, view, Fail, Adds, IsAnswer, WgslRequest, Misfit}
 use Rattle.wgsl_syntax.specs.declared.rules.RuleSet.TheVariants.{Ported}
 use Rattle.wgsl_words.specs.Names.{binary_named, unary_named}
-use Rattle.wgsl_words.specs.Reader.{Words, a_word, all, behind, last, one, pair}
+use Rattle.wgsl_words.specs.Reader.{Words, a_word, all, behind, last, one, pair, Misses, words_of}
 use Rattle.wgsl_words.specs.Templates.{template_at}
 use Rattle.wgsl_words.specs.Types.{type_at}
 use Rattle.wgsl_core.specs.declared.ty.StructType.{StructType}
 use Rattle.wgsl_words.specs.declared.command.ReadCall.{ReadCall}
+use Rattle.wgsl_requests.specs.declared.reply.TextKind.{TextKind}
+use Rattle.wgsl_requests.specs.Replies.{IsReplyOf, OfLine, ReplyText, nothing}
 
 abbrev pub of_struct : (List ℕ → Members → Request) → WgslType → Option Request
 of_struct ask (struct name ms) = Some (ask name ms)
@@ -70,3 +72,17 @@ struct_in s = let seen = struct_view s in struct seen.name seen.members
 abbrev pub a_struct : WgslType → Option WgslType
 a_struct (struct name ms) = Some (struct name ms)
 a_struct t = None
+
+-- The answer to the request that was found is written at the end of a text. None was found if the words misfit.
+abbrev pub Answers : {Z : Type 0} → Option WgslRequest → String Z → String Z → Result TextKind (Fail Misfit) → Type 0
+Answers found old new (Ok kind) = (request : WgslRequest) × (found ≡ Some request) × Adds (IsAnswer request kind) (string_bytes old) (string_bytes new)
+Answers found old new (Err e) = Misses e found
+
+-- the reply to words; no words get nothing
+abbrev pub IsReplyToWords : Words → ReplyText → Type 0
+IsReplyToWords [] reply = reply ≡ nothing
+IsReplyToWords (word ∷ words) reply = IsReplyOf (request_of (word ∷ words)) reply
+
+-- the reply to the bytes of a line
+abbrev pub IsReplyToLine : List ℕ → ReplyText → Type 0
+IsReplyToLine bytes = OfLine (IsReplyToWords (words_of bytes)) bytes

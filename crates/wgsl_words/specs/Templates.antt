@@ -6,11 +6,9 @@ use Rattle.wgsl_syntax.specs.declared.address.AddressSpace.TheVariants.{Handle}
 use Rattle.wgsl_syntax.specs.declared.enumerant.Enumerant.{Enumerant}
 use Rattle.wgsl_syntax.specs.declared.enumerant.Enumerant.TheVariants as enumerants
 use Rattle.wgsl_rules.specs.types.Literals.{Literal, bool, abstract_int, i32, u32, i64, u64}
-use Rattle.wgsl_words.specs.Names.{access_named, some_flag_named, space_named, texel_named}
-use Rattle.wgsl_words.specs.Numbers.{long, medium}
-use Rattle.wgsl_words.specs.Reader.{Reader, ◌>>=◌, ◌<$>◌, a_word, nothing, one, one_of, pure}
+use Rattle.wgsl_words.specs.Names.{access_named, some_flag_named, space_named, texel_named, long, medium}
+use Rattle.wgsl_words.specs.Reader.{Reader, ◌>>=◌, ◌<$>◌, a_word, nothing, one, one_of, pure, has_bytes}
 use Rattle.wgsl_words.specs.Types.{type_at}
-use Rattle.wgsl_words.specs.Words.{has_bytes}
 
 abbrev pub without_minus : List ℕ → List ℕ
 without_minus word = if starts_with_minus word then drop 1 word else word

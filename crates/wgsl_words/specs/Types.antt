@@ -8,8 +8,7 @@ use Rattle.wgsl_syntax.specs.declared.texture_name.TextureParameterKind.{Texture
 use Rattle.wgsl_syntax.specs.declared.texture_name.TextureParameterKind.TheVariants as kinds
 use Rattle.wgsl_syntax.specs.declared.texture_name.TextureParameters.{TextureParameters}
 use Rattle.wgsl_syntax.specs.declared.texture_name.TextureParameters.TheVariants as parameters
-use Rattle.wgsl_words.specs.Names.{access_named, flag_named, sampled_named, sampler_named, scalar_named, space_named, texel_named, texture_named}
-use Rattle.wgsl_words.specs.Numbers.{attribute, count, long, small}
+use Rattle.wgsl_words.specs.Names.{access_named, flag_named, sampled_named, sampler_named, scalar_named, space_named, texel_named, texture_named, attribute, count, long, small}
 use Rattle.wgsl_words.specs.Reader.{Reader, ◌>>=◌, ◌<$>◌, a_word, pure, means, one, optional, or_else, times, Misses, Words}
 
 -- two words

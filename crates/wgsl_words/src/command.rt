@@ -1,30 +1,24 @@
 // What is answered to each command.
+#![tactic(auto, unfolding(crate::specs::Requests::request_from))]
+
 ghost use Rattle.std.specs.Prelude.{◌≡◌, codes, option_and_then};
 ghost use Rattle.wgsl_calls.specs.Calls.{signature_of};
-ghost use Rattle.wgsl_words.specs.Replies.{Answers};
-ghost use Rattle.wgsl_words.specs.Requests.{a_struct, call_view, struct_in, callee, request_from};
+ghost use Rattle.wgsl_words.specs.Requests.{Answers, a_struct, call_view, struct_in, callee, request_from};
 ghost use Rattle.wgsl_words.specs.Reader.{Gives, last};
 ghost use Rattle.wgsl_words.specs.Types.{type_at};
 
+use crate::prelude::*;
 use crate::read::{read_last_type, read_pair, read_types};
 use crate::template::read_template;
-use crate::wanted::{Misfit, Read, Wanted};
-use crate::words::{Words, wanted};
-use std::alloc::Global;
-use wgsl_core::error::Fail;
-use wgsl_core::signature::TpltParam;
-use wgsl_core::ty::{StructType, Type};
-use wgsl_requests::write::write_common;
 use wgsl_requests::reply::TextKind;
 use wgsl_requests::requests::{NamedCall, Request};
-use wgsl_requests::write::write_answer_to;
+use wgsl_requests::write::{write_answer_to, write_common};
 use wgsl_syntax::operator::{binary_named, unary_named};
 use wgsl_syntax::rules::RuleSet;
 use wgsl_types::typed::typed_lines;
 
 /// Writes the answer to the command and the words behind it at the end of the text.
 #[inline(always)]
-#[tactic(auto, unfolding(crate::specs::Requests::request_from))]
 pub fn write_answer(
     alloc: Global,
     command: &str,
@@ -48,7 +42,6 @@ pub fn write_answer(
 }
 
 /// `rank T U`: the rank of the conversion.
-#[tactic(auto, unfolding(crate::specs::Requests::request_from))]
 fn rank(alloc: Global, words: &mut Words, text: &mut String) -> Read<TextKind>
     ensures { Answers (request_from (codes "rank") words.old) text.old text.new result }
 {
@@ -60,7 +53,6 @@ fn rank(alloc: Global, words: &mut Words, text: &mut String) -> Read<TextKind>
 
 /// `common T..`: the type that all have once they are converted together, or `none` if there is none, or if one of them
 /// doesn't convert to it.
-#[tactic(auto, unfolding(crate::specs::Requests::request_from))]
 fn common(alloc: Global, words: &mut Words, text: &mut String) -> Read<TextKind>
     ensures { Answers (request_from (codes "common") words.old) text.old text.new result }
 {
@@ -97,7 +89,6 @@ fn binary(alloc: Global, words: &mut Words, text: &mut String) -> Read<TextKind>
 }
 
 /// `size T`: the size and the alignment.
-#[tactic(auto, unfolding(crate::specs::Requests::request_from))]
 fn size(alloc: Global, words: &mut Words, text: &mut String) -> Read<TextKind>
     ensures { Answers (request_from (codes "size") words.old) text.old text.new result }
 {
@@ -108,7 +99,6 @@ fn size(alloc: Global, words: &mut Words, text: &mut String) -> Read<TextKind>
 }
 
 /// `offsets T` for a struct T: the offset of each member.
-#[tactic(auto, unfolding(crate::specs::Requests::request_from))]
 fn offsets(alloc: Global, words: &mut Words, text: &mut String) -> Read<TextKind>
     ensures { Answers (request_from (codes "offsets") words.old) text.old text.new result }
 {
@@ -119,7 +109,6 @@ fn offsets(alloc: Global, words: &mut Words, text: &mut String) -> Read<TextKind
 }
 
 /// `layout T` for a struct T: a report of its members and of the whole.
-#[tactic(auto, unfolding(crate::specs::Requests::request_from))]
 fn layout(alloc: Global, words: &mut Words, text: &mut String) -> Read<TextKind>
     ensures { Answers (request_from (codes "layout") words.old) text.old text.new result }
 {
@@ -143,7 +132,6 @@ fn read_struct(alloc: Global, words: &mut Words) -> Read<Box<StructType>>
 }
 
 /// `ctor NAME P T..`: the type that the constructor makes, or why it makes none.
-#[tactic(auto, unfolding(crate::specs::Requests::request_from))]
 fn ctor(alloc: Global, words: &mut Words, text: &mut String) -> Read<TextKind>
     ensures { Answers (request_from (codes "ctor") words.old) text.old text.new result }
 {
@@ -154,7 +142,6 @@ fn ctor(alloc: Global, words: &mut Words, text: &mut String) -> Read<TextKind>
 }
 
 /// `call NAME P T..`: the type of the call, `no value` if it returns none, or why it has no type.
-#[tactic(auto, unfolding(crate::specs::Requests::request_from))]
 fn call(alloc: Global, words: &mut Words, text: &mut String) -> Read<TextKind>
     ensures { Answers (request_from (codes "call") words.old) text.old text.new result }
 {

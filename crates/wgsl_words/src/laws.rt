@@ -1,8 +1,7 @@
 // Laws of the words: each function returns nothing, and its contract is the law.
 ghost use Rattle.std.specs.Prelude.{◌≡◌, ℕ, List, Some};
 ghost use Rattle.wgsl_words.specs.Prelude.{ReplyText, WgslRequest, WgslType};
-ghost use Rattle.wgsl_words.specs.Replies.{IsReplyToLine};
-ghost use Rattle.wgsl_words.specs.Requests.{request_of};
+ghost use Rattle.wgsl_words.specs.Requests.{IsReplyToLine, request_of};
 ghost use Rattle.wgsl_words.specs.Types.{type_at};
 
 /// Words spell at most one request.

@@ -5,12 +5,10 @@
 mod command;
 pub mod laws;
 mod layer;
-mod leaf;
-mod literal;
 mod number;
+mod prelude;
 pub mod read;
 pub mod reply;
-mod split;
 pub mod template;
 pub mod wanted;
 pub mod why;

@@ -1,6 +1,10 @@
-// What a word counts.
-ghost use Rattle.std.specs.Prelude.{◌≡◌, ◌↔◌, IsTrue, slice_index};
-ghost use Rattle.wgsl_words.specs.Numbers as spec;
+// What a word counts, and the literals that words stand for.
+ghost use Rattle.std.specs.Prelude.{◌≡◌, ◌↔◌, ◌^◌, IsTrue, option_map, slice_index};
+ghost use Rattle.wgsl_core.specs.Instances.{literal_view};
+ghost use Rattle.wgsl_words.specs.Names as spec;
+ghost use Rattle.wgsl_words.specs.Templates as templates;
+
+use wgsl_core::literal::LiteralInstance;
 
 /// Whether the word begins with a plus, which `parse` reads and no number of a request has.
 pub fn begins_with_plus(word: &str) -> bool
@@ -39,7 +43,7 @@ pub fn long(word: &str) -> Option<u64>
     word.parse::<u64>().ok()
 }
 
-#[tactic(auto, unfolding(crate::specs::Numbers::count))]
+#[tactic(auto, unfolding(crate::specs::Names::count))]
 pub fn count(word: &str) -> Option<Option<usize>>
     ensures { result ≡ spec.count word.now }
 {
@@ -49,7 +53,7 @@ pub fn count(word: &str) -> Option<Option<usize>>
     Some(Some(long(word)? as usize))
 }
 
-#[tactic(auto, unfolding(crate::specs::Numbers::attribute))]
+#[tactic(auto, unfolding(crate::specs::Names::attribute))]
 pub fn attribute(word: &str) -> Option<Option<u32>>
     ensures { result ≡ spec.attribute word.now }
 {
@@ -57,4 +61,63 @@ pub fn attribute(word: &str) -> Option<Option<u32>>
         return Some(None);
     }
     Some(Some(medium(word)?))
+}
+
+/// A literal: `true`, `false`, or a number, with the suffix of its kind if it isn't abstract.
+#[tactic(auto, unfolding(crate::specs::Templates::literal))]
+pub fn literal(word: &str) -> Option<LiteralInstance>
+    ensures { option_map literal_view result ≡ templates.literal word.now }
+{
+    match word {
+        "true" => Some(LiteralInstance::Bool(true)),
+        "false" => Some(LiteralInstance::Bool(false)),
+        _ => number(word),
+    }
+}
+
+/// A number, with the suffix of its kind if it isn't abstract.
+#[tactic(auto, unfolding(crate::specs::Templates::number))]
+fn number(word: &str) -> Option<LiteralInstance>
+    ensures { option_map literal_view result ≡ templates.number word.now }
+{
+    if let Some(digits) = word.strip_suffix("li") {
+        Some(LiteralInstance::I64(signed(digits)?))
+    } else if let Some(digits) = word.strip_suffix("lu") {
+        Some(LiteralInstance::U64(long(digits)?))
+    } else {
+        short_number(word)
+    }
+}
+
+#[tactic(auto, unfolding(crate::specs::Templates::short_number))]
+fn short_number(word: &str) -> Option<LiteralInstance>
+    ensures { option_map literal_view result ≡ templates.short_number word.now }
+{
+    if let Some(digits) = word.strip_suffix("i") {
+        Some(LiteralInstance::I32(signed_short(digits)?))
+    } else if let Some(digits) = word.strip_suffix("u") {
+        Some(LiteralInstance::U32(medium(digits)?))
+    } else {
+        Some(LiteralInstance::AbstractInt(signed(word)?))
+    }
+}
+
+/// A signed number of at most 64 bits.
+fn signed(word: &str) -> Option<i64>
+    ensures { result ≡ templates.signed_below (2 ^ 63) word.now }
+{
+    if begins_with_plus(word) {
+        return None;
+    }
+    word.parse::<i64>().ok()
+}
+
+/// A signed number of at most 32 bits.
+fn signed_short(word: &str) -> Option<i32>
+    ensures { result ≡ templates.signed_below (2 ^ 31) word.now }
+{
+    if begins_with_plus(word) {
+        return None;
+    }
+    word.parse::<i32>().ok()
 }

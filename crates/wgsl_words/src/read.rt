@@ -4,15 +4,9 @@ ghost use Rattle.wgsl_core.specs.View.{member_view, view};
 ghost use Rattle.wgsl_words.specs.Types.{ReadsNext, wrapped, in_layer, member_at, other_from, struct_at, type_at, type_from};
 ghost use Rattle.wgsl_words.specs.Reader.{Gives, Reads, all, last, pair};
 
-use crate::layer::read_layer;
-use crate::leaf::read_leaf;
-use crate::wanted::{Misfit, Read, Wanted};
-use crate::words::Words;
-use std::alloc::Global;
-use wgsl_core::error::Fail;
-use wgsl_core::ty::{StructMemberType, StructType, Type};
-use wgsl_requests::reply::Made;
-use wgsl_syntax::around::Around;
+use crate::layer::{read_layer, read_leaf};
+use crate::prelude::*;
+use wgsl_core::ty::StructMemberType;
 use wgsl_syntax::scalar::scalar_named;
 
 /// The type that the next words stand for.

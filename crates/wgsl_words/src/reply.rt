@@ -1,16 +1,13 @@
 // One line, from its bytes to its reply.
 ghost use Rattle.std.specs.Prelude.{◌≡◌, ◌<◌, ◌≤◌, ◌∷◌, [], IsOkAnd, IsUtf8, Ok, length};
 ghost use Rattle.wgsl_requests.specs.Replies.{IsUnreadable, Replies};
-ghost use Rattle.wgsl_words.specs.Replies.{IsReplyToLine, IsReplyToWords};
-ghost use Rattle.wgsl_words.specs.Words.{words_of};
+ghost use Rattle.wgsl_words.specs.Requests.{IsReplyToLine, IsReplyToWords};
+ghost use Rattle.wgsl_words.specs.Reader.{words_of};
 
 use crate::command::write_answer;
-use crate::wanted::{Misread, Wanted};
+use crate::prelude::*;
 use crate::why::Why;
-use crate::words::Words;
-use std::alloc::Global;
-use wgsl_core::error::Fail;
-use wgsl_requests::reply::{LONGEST, Made, ReplyKind};
+use wgsl_requests::reply::{LONGEST, ReplyKind};
 
 /// The kind of the reply to a line, by the ported rules. An answer is written at the end of the text.
 #[inline(always)]

@@ -4,18 +4,11 @@ ghost use Rattle.wgsl_core.specs.Instances.{literal_view, parameter_view};
 ghost use Rattle.wgsl_words.specs.Reader.{Reads, one};
 ghost use Rattle.wgsl_words.specs.Templates.{enumerant_named, literal, parameter_from, parameters_at, template_at};
 
-use crate::literal::literal;
+use crate::number::literal;
+use crate::prelude::*;
 use crate::read::read_type;
-use crate::wanted::{Misfit, Read, Wanted};
-use crate::words::{Words, wanted};
-use std::alloc::Global;
-use wgsl_core::error::Fail;
 use wgsl_core::literal::{Instance, LiteralInstance};
-use wgsl_core::signature::TpltParam;
-use wgsl_syntax::address::{AddressSpace, access_named, space_named};
-use wgsl_syntax::attribute::flag_named;
 use wgsl_syntax::enumerant::Enumerant;
-use wgsl_syntax::texel::texel_named;
 
 /// The template of a call: `-` for none, or `<`, parameters and `>`.
 #[inline(always)]

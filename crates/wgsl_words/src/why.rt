@@ -1,8 +1,6 @@
 // Why a request can't be read, as a message.
-use crate::wanted::{Misfit, Misread, Wanted};
-use crate::words::Words;
+use crate::prelude::*;
 use std::str::FromStr;
-use wgsl_requests::reply::Made;
 use wgsl_requests::write::overloads::write_suggestion;
 use wgsl_requests::write::word::write_word;
 use wgsl_standard::meant::meant_type;
