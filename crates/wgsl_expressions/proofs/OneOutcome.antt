@@ -18,16 +18,13 @@ use Rattle.wgsl_reader.specs.declared.mark.Mark.TheVariants as m
 use Rattle.wgsl_reader.specs.declared.rule.Rule.{Rule}
 use Rattle.wgsl_spelling.specs.Names.{access_named, space_named}
 use Rattle.wgsl_syntax.specs.Names.{named}
-use Rattle.wgsl_expressions.specs.Headings.{Changed, Membered, NumberedIfAny, attributes, member_in as member_within, struct_on, with_attribute}
-use Rattle.wgsl_expressions.specs.Names.{head_noted}
+use Rattle.wgsl_expressions.specs.Stack.{Changed, Membered, NumberedIfAny, attributes, member_in as member_within, struct_on, with_attribute, By, Call, Heading, Item, Next, On, Puts, Top, asked_on, call_on, heading_on, operand_on, place_on, with_operand, a_question, an_asked, an_overloads}
+use Rattle.wgsl_expressions.specs.Source.{head_noted, Source, byte_at, first_count, kind_at, noted, number_noted, text_at, type_noted}
 use Rattle.wgsl_spelling.specs.Operators.{binary_of, unary_of}
-use Rattle.wgsl_expressions.specs.Source.{Source, byte_at, first_count, kind_at, noted, number_noted, text_at, type_noted}
-use Rattle.wgsl_expressions.specs.Stack.{By, Call, Heading, Item, Next, On, Puts, Top, asked_on, bracket_on, call_on, heading_on, name_on, operand_on, operator_on, with_operand, a_bracket, a_call, a_heading, a_name, a_question, an_asked, an_operand, an_operator, an_overloads}
 use Rattle.wgsl_expressions.specs.Statements.{Asked, assignment_of, statement_of, types_of, with_value, question_on, request_of}
-use Rattle.wgsl_expressions.specs.Typing.{Comes, IsAsked, IsTyped, LineIs, MovesBy, MovesIn, NotedBy, State, Steps, TextIs, TokensAre, closed_by, declaration_of, opened_by}
+use Rattle.wgsl_expressions.specs.Typing.{Comes, IsAsked, IsTyped, LineIs, MovesBy, MovesIn, NotedBy, State, Steps, TextIs, TokensAre, closed_by, declaration_of, opened_by, AnswersAny, AnswersItem, AnswersParts, AnswersQuestion, IsReplyToText, IsStandardReply}
 use Rattle.wgsl_expressions.specs.declared.heading.Attribute.{Attribute}
 use Rattle.wgsl_requests.specs.Replies.{ReplyText}
-use Rattle.wgsl_expressions.specs.Replies.{AnswersAny, AnswersItem, AnswersParts, AnswersQuestion, IsReplyToText, IsStandardReply}
 use Rattle.wgsl_expressions.specs.declared.statement.Question.{Question}
 
 -- parts, by the requests about them
@@ -84,37 +81,34 @@ value items = on_top (operand_on items) _ (λ x. becomes (with_value x))
 module _ (s : Source) (scope : Scope) where
   given : (is_const : Bool) (index : ℕ) → GoesOn (Given is_const s scope index)
   given is_const index items =
-      on_top (name_on items) _ (λ from. by_any (type_noted s scope (noted s from index)) (λ t. with_given (is_const || has_abstract_type t.0) t.0) (λ t items. known _))
+      on_top (place_on items) _ (λ from. by_any (type_noted s scope (noted s from index)) (λ t. with_given (is_const || has_abstract_type t.0) t.0) (λ t items. known _))
 
   membered : (index : ℕ) → GoesOn (Membered s scope index)
   membered index items =
-      on_top (name_on items) _ (λ from below. on_top (name_on below) _ (λ name_at. by_any (type_noted s scope (noted s from index)) _
+      on_top (place_on items) _ (λ from below. on_top (place_on below) _ (λ name_at. by_any (type_noted s scope (noted s from index)) _
       (λ t below. on_top (heading_on below) _ (λ h. by_any (member_within (text_at s (first_count (noted s name_at from))) t.0 t.1 h) _ (λ h below. known _)))))
 
   steps : (index : ℕ) (mark : Mark) (count : ℕ) → GoesOn (Steps s scope index mark count)
   steps index m.Literal count items = by_any (slice_get s.tokens (count - 1)) (λ t. with_given true (literal_of s.text t)) (λ t items. known _) items
-  steps index m.Open count items = on_top (name_on items) _ (λ from. by_any (head_noted s scope (noted s from index)) _ (λ head items. known _))
-  steps index m.OpenElement count items = known _
+  steps index m.Open count items = on_top (place_on items) _ (λ from. by_any (head_noted s scope (noted s from index)) _ (λ head items. known _))
   steps index m.Argument count items = on_top (operand_on items) _ (λ x below. on_top (call_on below) _ (λ call below. known _))
   steps index m.Call count items = on_top (call_on items) _ (λ call. ends _ call)
   steps index m.MemberOf count items = on_top (operand_on items) _ (λ x. puts (one_member (byte_at s count) (text_at s count) x))
-  steps index m.Element count items = on_top (operand_on items) _ (λ i below. on_top (bracket_on below) _ (λ at below. on_top (operand_on below) _ (λ x. puts (one_element at x i))))
-  steps index m.Operator count items = known _
-  steps index m.Unary count items = on_top (operand_on items) _ (λ x below. on_top (operator_on below) _ (λ count. by_any (unary_of (kind_at s count)) _ (λ o. ends _ _)))
+  steps index m.Element count items = on_top (operand_on items) _ (λ i below. on_top (place_on below) _ (λ at below. on_top (operand_on below) _ (λ x. puts (one_element at x i))))
+  steps index m.Unary count items = on_top (operand_on items) _ (λ x below. on_top (place_on below) _ (λ count. by_any (unary_of (kind_at s count)) _ (λ o. ends _ _)))
   steps index m.Binary count items =
-      on_top (operand_on items) _ (λ y below. on_top (operator_on below) _ (λ count below. on_top (operand_on below) _ (λ x. by_any (binary_of (kind_at s count)) _ (λ o. ends _ _))))
+      on_top (operand_on items) _ (λ y below. on_top (place_on below) _ (λ count below. on_top (operand_on below) _ (λ x. by_any (binary_of (kind_at s count)) _ (λ o. ends _ _))))
   steps index m.Keyword count items = by_any (statement_of (kind_at s count)) _ (λ statement. by_any (types_of scope (kind_at s count)) _ (λ types items. known _)) items
   steps index m.AddressSpace count items = by_any (space_named (text_at s count)) _ (λ found. becomes _) items
   steps index m.AccessMode count items = by_any (access_named (text_at s count)) _ (λ found. becomes _) items
-  steps index m.Typed count items = on_top (name_on items) _ (λ from. by_any (type_noted s scope (noted s from index)) _ (λ t. becomes _))
+  steps index m.Typed count items = on_top (place_on items) _ (λ from. by_any (type_noted s scope (noted s from index)) _ (λ t. becomes _))
   steps index m.StructType count items = on_top (struct_on items) _ (λ t. becomes _)
   steps index m.Assign count items = on_top (operand_on items) _ (λ y below. on_top (operand_on below) _ (λ x below. known _))
   steps index m.AssignBy count items =
-      on_top (operand_on items) _ (λ y below. on_top (operator_on below) _ (λ count below. on_top (operand_on below) _ (λ x. by_any (assignment_of (text_at s count)) _ (λ o below. known _))))
+      on_top (operand_on items) _ (λ y below. on_top (place_on below) _ (λ count below. on_top (operand_on below) _ (λ x. by_any (assignment_of (text_at s count)) _ (λ o below. known _))))
   steps index m.Overloads count items = by_any (slice_get s.tokens (count - 1)) _ (λ t items. known _) items
-  steps index m.Heading count items = known _
-  steps index m.Attribute count items = on_top (name_on items) _ (λ from. numbered s (noted s from index) (named attributes (text_at s (first_count (noted s from index)))))
-  steps index m.Result count items = on_top (name_on items) _ (λ from. by_any (type_noted s scope (noted s from index)) _ (λ t. changed _))
+  steps index m.Attribute count items = on_top (place_on items) _ (λ from. numbered s (noted s from index) (named attributes (text_at s (first_count (noted s from index)))))
+  steps index m.Result count items = on_top (place_on items) _ (λ from. by_any (type_noted s scope (noted s from index)) _ (λ t. changed _))
   steps index m.Value count items = given false index items
   steps index m.Constant count items = given true index items
   steps index m.Initialized count items = value items
@@ -181,15 +175,10 @@ one_of_parts Holds one (Ok xs) = one xs
 one_of_parts Holds one (Err e) = known _
 
 one_of_item : (line : List ℕ) (item : Item) → HasOne EachAnswered (AnswersItem line item)
-one_of_item line (an_operand x) = known _
 one_of_item line (an_asked a) = one_of_parts _ (λ xs. one_reply_of (request_of a.statement a.types (map operand xs))) a.parts
 one_of_item line (a_question question call) = one_of_parts _ (λ xs. one_of_question question call.head (asked call.head xs)) call.parts
 one_of_item line (an_overloads token) = one_reply_of (Some (overloads_of (word line token)))
-one_of_item line (a_name index) = known _
-one_of_item line (an_operator count) = known _
-one_of_item line (a_bracket at) = known _
-one_of_item line (a_call call) = known _
-one_of_item line (a_heading h) = known _
+one_of_item line item = known _
 
 one_of_any : (line : List ℕ) (item : Option (Option Item)) → HasOne EachAnswered (AnswersAny line item)
 one_of_any line None = known _

@@ -1,15 +1,9 @@
 pub mod Prelude
 pub mod Source
-pub mod Literals
-pub mod Reading
 pub mod RequestTokens
-pub mod Scopes
 pub mod Outcomes
-pub mod Names
 pub mod Statements
 pub mod Stack
-pub mod Headings
 pub mod Steps
 pub mod Typing
 pub mod Views
-pub mod Replies

@@ -14,11 +14,10 @@ pub use Rattle.wgsl_reader.specs.declared.mark.Mark.{Mark}
 pub use Rattle.wgsl_reader.specs.declared.read.Event.{Event}
 pub use Rattle.wgsl_reader.specs.declared.token.Token.{Token}
 pub use Rattle.wgsl_requests.specs.Answers.{a_fit, a_form_type, a_type_of, Answers, WgslAnswer}
-pub use Rattle.wgsl_requests.specs.Requests.{type_asked}
+pub use Rattle.wgsl_requests.specs.Requests.{type_asked, common, explanation_of, fit_of, form_of, layout, offsets, overloads_of, rank, resolution_of, size}
 pub use Rattle.wgsl_requests.specs.Prelude.{a_constructor, a_unary, Fail, member_view, Members, of_type, Operand, overloads_listed, Parameter, parameter_view}
 pub use Rattle.wgsl_requests.specs.Prelude.{scalar, struct_view, view, wgsl_spelling, WgslCallee, WgslType}
-pub use Rattle.wgsl_requests.specs.Requests.{common, explanation_of, fit_of, form_of, layout, offsets, overloads_of, rank, resolution_of, size, type_of}
-pub use Rattle.wgsl_requests.specs.Requests.{WgslRequest}
+pub use Rattle.wgsl_requests.specs.Requests.{type_of, WgslRequest}
 pub use Rattle.wgsl_requests.specs.Texts.{answer_text, resolution_text, text_kind, Writes}
 pub use Rattle.wgsl_requests.specs.Views.{answer_view, call_view, form_view, request_view, written_view}
 pub use Rattle.wgsl_rules.specs.types.Types.{array, mat, struct, vec}

@@ -1,5 +1,5 @@
 -- Declarations, statements and questions over types, and what they ask.
-use Rattle.std.specs.Prelude.{ℕ, List, [], ◌∷◌, ◌++◌, Option, Some, None, Ok, codes, option_map}
+use Rattle.std.specs.Prelude.{ℕ, List, [], ◌∷◌, ◌++◌, Option, Some, None, Ok, codes, option_map, option_to_list}
 use Rattle.wgsl_expressions.specs.Prelude.{named, table, AssignmentOperator, Bool as TheBool, Operand, Members, WgslType, scalar, struct, condition, returned}
 use Rattle.wgsl_expressions.specs.Prelude.{Kind, WgslAnswer, a_fit, a_form_type, WgslRequest, common, explanation_of, fit_of, form_of, layout, offsets, rank}
 use Rattle.wgsl_expressions.specs.Prelude.{resolution_of, size, type_of, answer_text, resolution_text, Question}
@@ -13,7 +13,7 @@ use Rattle.wgsl_forms.specs.declared.declare.Declaration.TheVariants.{Let, Const
 use Rattle.wgsl_reader.specs.declared.kind.Kind.TheVariants as k
 use Rattle.wgsl_requests.specs.Requests.{WgslForm, assignment_of as an_assignment, declaration_of, discard_of, increment_of, initialized_of, load_of, override_of, switch_of, variable_of}
 use Rattle.wgsl_expressions.specs.Outcomes.{Head, Outcome, Parts, declared, with_part}
-use Rattle.wgsl_expressions.specs.Scopes.{Scope, last_result}
+use Rattle.wgsl_expressions.specs.Source.{Scope, last_result}
 use Rattle.wgsl_expressions.specs.declared.statement.Question.TheVariants as q
 use Rattle.wgsl_expressions.specs.declared.statement.Statement.{Statement}
 use Rattle.wgsl_expressions.specs.declared.statement.Statement.TheVariants as s
@@ -47,16 +47,12 @@ statement_of k.Offsets = Some s.Offsets
 statement_of k.Layout = Some s.Layout
 statement_of other = None
 
-abbrev pub listed : Option WgslType → List WgslType
-listed None = []
-listed (Some t) = t ∷ []
-
 -- the types that the values have to fit: that of a condition, and behind `return` the result of the function
 abbrev pub types_of : Scope → Kind → Option (List WgslType)
 types_of scope k.ConstAssert = Some (scalar TheBool ∷ [])
 types_of scope k.If = Some (scalar TheBool ∷ [])
 types_of scope k.While = Some (scalar TheBool ∷ [])
-types_of scope k.Return = option_map listed (last_result scope)
+types_of scope k.Return = option_map option_to_list (last_result scope)
 types_of scope other = Some []
 
 -- `+=`

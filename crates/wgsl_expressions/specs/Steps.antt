@@ -5,14 +5,11 @@ use Rattle.wgsl_forms.specs.Concrete.{has_abstract_type}
 use Rattle.wgsl_reader.specs.declared.mark.Mark.TheVariants as m
 use Rattle.wgsl_spelling.specs.Names.{access_named, space_named}
 use Rattle.wgsl_syntax.specs.declared.operator.AssignmentOperator.TheVariants.{Equal}
-use Rattle.wgsl_expressions.specs.Headings.{struct_on}
-use Rattle.wgsl_expressions.specs.Literals.{type_of_literal}
-use Rattle.wgsl_expressions.specs.Names.{head_noted}
+use Rattle.wgsl_expressions.specs.Stack.{struct_on, By, Call, Next, On, Puts, a_call, a_question, an_asked, an_overloads, asked_on, call_on, operand_on, place_on, with_operand}
+use Rattle.wgsl_expressions.specs.RequestTokens.{type_of_literal}
+use Rattle.wgsl_expressions.specs.Source.{head_noted, Scope, Source, byte_at, first_count, kind_at, noted, text_at, type_noted}
 use Rattle.wgsl_spelling.specs.Operators.{binary_of, unary_of}
 use Rattle.wgsl_expressions.specs.Outcomes.{Head, IsCalled, IsElement, IsMember, Outcome, Parts, no_parts, overloaded, with_part}
-use Rattle.wgsl_expressions.specs.Scopes.{Scope}
-use Rattle.wgsl_expressions.specs.Source.{Source, byte_at, first_count, kind_at, noted, text_at, type_noted}
-use Rattle.wgsl_expressions.specs.Stack.{By, Call, Next, On, Puts, a_call, a_question, an_asked, an_overloads, asked_on, bracket_on, call_on, name_on, operand_on, operator_on, with_operand}
 use Rattle.wgsl_expressions.specs.Statements.{Asked, assignment_of, stated, statement_of, types_of, with_access, with_space, with_type, with_value}
 use Rattle.wgsl_expressions.specs.declared.statement.Statement.{Statement}
 use Rattle.wgsl_expressions.specs.declared.statement.Statement.TheVariants as statements
@@ -31,21 +28,19 @@ literal_of text t = scalar (type_of_literal t.kind (word text t))
 abbrev pub Literal : Source → ℕ → Next
 Literal s count items r = By (slice_get s.tokens (count - 1)) (λ t. with_given true (literal_of s.text t)) items r
 
--- a type in place of a value, noted from the name on; it is a const-expression if that is said, or if it is abstract
-abbrev pub Typed : Bool → Source → Scope → ℕ → ℕ → Next
-Typed is_const s scope index from items r = By (type_noted s scope (noted s from index)) (λ t. with_given (is_const || has_abstract_type t.0) t.0) items r
-
--- `f32`, `const f32`
+-- `f32`, `const f32`: a type in place of a value, noted from the name on. It is a const-expression if that is said, or if the type
+-- is abstract.
 abbrev pub Given : Bool → Source → Scope → ℕ → Next
-Given is_const s scope index items r = On (name_on items) (Typed is_const s scope index) r
+Given is_const s scope index items r = On (place_on items) (λ from. By (type_noted s scope (noted s from index))
+    (λ t. with_given (is_const || has_abstract_type t.0) t.0)) r
 
-abbrev pub begun : ℕ → Head → Call
-begun at head = record { at = at; head = head; parts = no_parts }
+abbrev pub call_with : ℕ → Head → Parts → Call
+call_with at head parts = record { at = at; head = head; parts = parts }
 
 -- the `(` behind what is called by the name that is noted with its list
 abbrev pub Opens : Source → Scope → ℕ → Next
-Opens s scope index items r = On (name_on items) (λ from. By (head_noted s scope (noted s from index))
-    (λ head items r. r ≡ Some (a_call (begun (byte_at s (first_count (noted s from index))) head) ∷ items))) r
+Opens s scope index items r = On (place_on items) (λ from. By (head_noted s scope (noted s from index))
+    (λ head items r. r ≡ Some (a_call (call_with (byte_at s (first_count (noted s from index))) head no_parts) ∷ items))) r
 
 -- one more argument
 abbrev pub with_argument : Outcome → Call → Call
@@ -89,19 +84,16 @@ Member s count items r = On (operand_on items) (λ x. Puts (IsMember (byte_at s 
 
 -- `a[i]`
 abbrev pub Element : Next
-Element items r = On (operand_on items) (λ i below. On (bracket_on below) (λ at below. On (operand_on below) (λ x. Puts (IsElement at x i)))) r
-
-abbrev pub call_with : ℕ → Head → Parts → Call
-call_with at head parts = record { at = at; head = head; parts = parts }
+Element items r = On (operand_on items) (λ i below. On (place_on below) (λ at below. On (operand_on below) (λ x. Puts (IsElement at x i)))) r
 
 -- `-a`
 abbrev pub Unary : Source → ℕ → Next
-Unary s index items r = On (operand_on items) (λ x below. On (operator_on below) (λ count. By (unary_of (kind_at s count))
+Unary s index items r = On (operand_on items) (λ x below. On (place_on below) (λ count. By (unary_of (kind_at s count))
     (λ o. Ends s index (call_with (byte_at s count) (overloaded (a_unary o) None) (with_part no_parts x))))) r
 
 -- `a + b`
 abbrev pub Binary : Source → ℕ → Next
-Binary s index items r = On (operand_on items) (λ y below. On (operator_on below) (λ count below. On (operand_on below) (λ x. By (binary_of (kind_at s count))
+Binary s index items r = On (operand_on items) (λ y below. On (place_on below) (λ count below. On (operand_on below) (λ x. By (binary_of (kind_at s count))
     (λ o. Ends s index (call_with (byte_at s count) (overloaded (a_binary o) None) (with_part (with_part no_parts x) y)))))) r
 
 -- `let`, `if`, `size`: what begins a request
@@ -128,7 +120,7 @@ OfType t items r = Becomes (with_type t) items r
 
 -- `: f32`, `size f32`, noted from its name on
 abbrev pub Annotated : Source → Scope → ℕ → Next
-Annotated s scope index items r = On (name_on items) (λ from. By (type_noted s scope (noted s from index)) (λ t. OfType t.0)) r
+Annotated s scope index items r = On (place_on items) (λ from. By (type_noted s scope (noted s from index)) (λ t. OfType t.0)) r
 
 -- `size struct S { a: f32 }`
 abbrev pub WithStruct : Next
@@ -147,7 +139,7 @@ Assigns items r = On (operand_on items) (λ y below. On (operand_on below) (λ x
 
 -- `a += b`
 abbrev pub AssignsBy : Source → Next
-AssignsBy s items r = On (operand_on items) (λ y below. On (operator_on below) (λ count below. On (operand_on below) (λ x.
+AssignsBy s items r = On (operand_on items) (λ y below. On (place_on below) (λ count below. On (operand_on below) (λ x.
     By (assignment_of (text_at s count)) (λ o. Assigned o x y)))) r
 
 -- `a++`, `a--`

@@ -1,34 +1,38 @@
--- What a text is, by what its reading notes: an expression, or a request.
-use Rattle.std.specs.Prelude.{◌≡◌, ℕ, zero, suc, ◌+◌, ◌-◌, List, [], ◌∷◌, Option, Some, None, Ok, Err, false, true, map, option_map}
-use Rattle.wgsl_expressions.specs.Prelude.{listed, Tokens, tokens_of, End, Mark, Event, Token}
+-- What a text is, by what its reading notes, an expression or a request, and what is replied to a line.
+use Rattle.std.specs.Prelude.{◌≡◌, ℕ, zero, suc, ◌+◌, ◌-◌, List, [], ◌∷◌, Option, Some, None, Ok, Err, false, true, map, option_and_then, option_map, IsUtf8, ◌++◌, codes}
+use Rattle.std.specs.Prelude.{decimal}
+use Rattle.wgsl_expressions.specs.Prelude.{listed, Tokens, tokens_of, End, Mark, Event, Token, wgsl_spelling, Expression, shown_type, Answers, WgslAnswer}
+use Rattle.wgsl_expressions.specs.Prelude.{WgslRequest, overloads_of, text_kind, word, Question}
 use Rattle.wgsl_reader.specs.Reading.{Outcome as Read, ReadAt, kind_of}
 use Rattle.wgsl_reader.specs.declared.grammar.Symbol.TheVariants as s
 use Rattle.wgsl_reader.specs.declared.mark.Mark.TheVariants as m
 use Rattle.wgsl_reader.specs.declared.rule.Rule.{Rule}
 use Rattle.wgsl_reader.specs.declared.rule.Rule.TheVariants.{Expression as an_expression, Request}
-use Rattle.wgsl_expressions.specs.Headings.{Attributed, Headed, Membered, Resulted, declared_by, function_declared, struct_declared}
-use Rattle.wgsl_expressions.specs.Outcomes.{Outcome}
+use Rattle.wgsl_expressions.specs.Stack.{Attributed, Headed, Membered, Resulted, declared_by, function_declared, struct_declared, Heading, Item, Next, a_place, an_operand, a_question, an_asked, an_overloads}
+use Rattle.wgsl_expressions.specs.Outcomes.{Outcome, Head, Parts, asked, operand}
 use Rattle.wgsl_expressions.specs.RequestTokens.{asked_behind, operand_token}
-use Rattle.wgsl_expressions.specs.Scopes.{Declared, Scope}
-use Rattle.wgsl_expressions.specs.Source.{Source, byte_at}
-use Rattle.wgsl_expressions.specs.Stack.{Heading, Item, Next, a_bracket, a_name, an_operand, an_operator}
+use Rattle.wgsl_expressions.specs.Source.{Declared, Scope, Source, byte_at}
 use Rattle.wgsl_expressions.specs.declared.statement.Question.TheVariants as q
 use Rattle.wgsl_expressions.specs.Steps.{Annotated, Argument, Asks, Assigns, AssignsBy, Begun, Binary, Calls, Element, Given, InSpace, Increments, Literal, Member, Opens, Overloads, Unary, Value, WithAccess, WithStruct}
+use Rattle.wgsl_requests.specs.Replies.{IsReplyOf, OfLine, ReplyText, answer, nothing, unreadable}
+use Rattle.wgsl_requests.specs.declared.reply.TextKind.{TextKind}
+use Rattle.wgsl_requests.specs.declared.reply.TextKind.TheVariants as kinds
+use Rattle.wgsl_expressions.specs.Statements.{question_on, request_of, told}
 
 -- what is done where something is noted at an index, behind this many tokens, with the names of a scope
 abbrev pub Steps : Source → Scope → ℕ → Mark → ℕ → Next
 Steps s scope index m.Literal count items r = Literal s count items r
-Steps s scope index m.Name count items r = r ≡ Some (a_name index ∷ items)
-Steps s scope index m.AttributeName count items r = r ≡ Some (a_name index ∷ items)
+Steps s scope index m.Name count items r = r ≡ Some (a_place index ∷ items)
+Steps s scope index m.AttributeName count items r = r ≡ Some (a_place index ∷ items)
 Steps s scope index m.Value count items r = Given false s scope index items r
 Steps s scope index m.Constant count items r = Given true s scope index items r
 Steps s scope index m.Open count items r = Opens s scope index items r
-Steps s scope index m.OpenElement count items r = r ≡ Some (a_bracket (byte_at s count) ∷ items)
+Steps s scope index m.OpenElement count items r = r ≡ Some (a_place (byte_at s count) ∷ items)
 Steps s scope index m.Argument count items r = Argument items r
 Steps s scope index m.Call count items r = Calls s index items r
 Steps s scope index m.MemberOf count items r = Member s count items r
 Steps s scope index m.Element count items r = Element items r
-Steps s scope index m.Operator count items r = r ≡ Some (an_operator count ∷ items)
+Steps s scope index m.Operator count items r = r ≡ Some (a_place count ∷ items)
 Steps s scope index m.Unary count items r = Unary s index items r
 Steps s scope index m.Binary count items r = Binary s index items r
 Steps s scope index m.Keyword count items r = Begun s scope count items r
@@ -92,13 +96,9 @@ abbrev pub whole : List Item → Option Item
 whole (item ∷ []) = Some item
 whole items = None
 
-abbrev pub whole_of_any : Option State → Option Item
-whole_of_any None = None
-whole_of_any (Some state) = whole state.1
-
 -- what comes of names and items by what is noted from an index on, where this many lists are open
 abbrev pub Comes : Source → ℕ → ℕ → Option State → List Event → Option Item → Type 0
-Comes s opened index state [] r = r ≡ whole_of_any state
+Comes s opened index state [] r = r ≡ option_and_then (λ state. whole state.1) state
 Comes s opened index None (e ∷ events) r = r ≡ None
 Comes s opened index (Some state) (e ∷ events) r = (next : Option State) ×
     MovesIn (closed_by opened e.mark) s index e state next × Comes s (opened_by (closed_by opened e.mark) e.mark) (index + 1) next events r
@@ -132,3 +132,51 @@ LineIs text (Ok (t ∷ ts)) r = (item : Option Item) × TokensAre [] Request tex
 -- All of a line is a request, or has no tokens: then there is no item in it. None if it is no request.
 abbrev pub IsAsked : List ℕ → Option (Option Item) → Type 0
 IsAsked text r = LineIs text (listed (tokens_of text)) r
+
+-- the outcome of an expression: `vec3<f32>`, or ``column 12: no overload of `+` takes (bool, i32)``
+abbrev pub outcome_kind : Outcome → TextKind
+outcome_kind (Ok x) = kinds.Answer
+outcome_kind (Err e) = kinds.Refusal
+
+abbrev pub outcome_text : Outcome → List ℕ
+outcome_text (Ok x) = wgsl_spelling (shown_type x)
+outcome_text (Err e) = codes "column " ++ (decimal (e.at + 1) ++ (codes ": " ++ e.message))
+
+abbrev pub reply_to : Outcome → ReplyText
+reply_to x = answer (outcome_kind x) (outcome_text x)
+
+-- what holds of the reply with these values, or the first of their parts that has no type
+abbrev pub AnswersParts : (List Expression → ReplyText → Type 0) → Parts → ReplyText → Type 0
+AnswersParts Holds (Ok xs) reply = Holds xs reply
+AnswersParts Holds (Err e) reply = reply ≡ reply_to (Err e)
+
+-- what is told of a call of which this asks the type
+abbrev pub AnswersQuestion : Question → Head → WgslRequest → ReplyText → Type 0
+AnswersQuestion question head request reply =
+    (a : WgslAnswer) × Answers (question_on request question) a × (reply ≡ answer (text_kind a) (told question head a))
+
+-- the reply to what a line asks
+abbrev pub AnswersItem : List ℕ → Item → ReplyText → Type 0
+AnswersItem line (an_operand x) reply = reply ≡ reply_to x
+AnswersItem line (an_asked a) reply = AnswersParts (λ xs. IsReplyOf (request_of a.statement a.types (map operand xs))) a.parts reply
+AnswersItem line (a_question question call) reply = AnswersParts (λ xs. AnswersQuestion question call.head (asked call.head xs)) call.parts reply
+AnswersItem line (an_overloads token) reply = IsReplyOf (Some (overloads_of (word line token))) reply
+AnswersItem line other reply = reply ≡ unreadable
+
+-- the reply to a line that has tokens, or has none, or is no request
+abbrev pub AnswersAny : List ℕ → Option (Option Item) → ReplyText → Type 0
+AnswersAny line None reply = reply ≡ unreadable
+AnswersAny line (Some None) reply = reply ≡ nothing
+AnswersAny line (Some (Some item)) reply = AnswersItem line item reply
+
+-- the reply to a line in WGSL
+abbrev pub IsReplyToText : List ℕ → ReplyText → Type 0
+IsReplyToText line reply = (item : Option (Option Item)) × IsAsked line item × AnswersAny line item reply
+
+-- the reply to the bytes of a line by WGSL's own rules
+abbrev pub IsStandardReply : List ℕ → ReplyText → Type 0
+IsStandardReply line reply = OfLine (IsReplyToText line) line reply
+
+-- a text without tokens
+abbrev pub IsBlank : List ℕ → Type 0
+IsBlank line = IsUtf8 line × (listed (tokens_of line) ≡ Ok [])

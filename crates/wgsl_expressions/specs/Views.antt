@@ -1,14 +1,13 @@
--- How the code's expressions, heads and items are seen.
+-- How the code's expressions, heads and items are seen, and what readers answer: a value, or an error.
 use Rattle.std.specs.Prelude.{◌≡◌, ℕ, List, Result, Ok, Err, Option, Some, None, map, option_map, reverse, string_bytes}
 use Rattle.wgsl_expressions.specs.Prelude.{parameter_view, WgslType, Answers, WgslAnswer, call_view as call_of, form_view, written_view, function, WgslRequest}
 use Rattle.wgsl_expressions.specs.Prelude.{fit_of, form_of, type_of, member_view, view, Token, a_unary, a_binary, a_function, a_constructor, Expression, Fail}
+use Rattle.wgsl_core.specs.declared.error.Fail.TheVariants as fails
 use Rattle.wgsl_core.specs.declared.ty.Type.{«Type»}
 use Rattle.wgsl_expressions.specs.Outcomes.{Head, Outcome, Refused, a_struct, declared, message_of, overloaded, type_of_answer, typed_array}
-use Rattle.wgsl_expressions.specs.Reading.{Answers as AnswersIn}
-use Rattle.wgsl_expressions.specs.Source.{Source}
+use Rattle.wgsl_expressions.specs.Source.{Source, Declared, Meaning, Scope, a_function, a_type}
 use Rattle.wgsl_expressions.specs.Statements.{Asked}
-use Rattle.wgsl_expressions.specs.Scopes.{Declared, Meaning, Scope, a_function, a_type}
-use Rattle.wgsl_expressions.specs.Stack.{Call, Heading, Item, Top, a_bracket, a_call, a_heading, a_name, a_question, an_asked, an_operand, an_operator, an_overloads}
+use Rattle.wgsl_expressions.specs.Stack.{Call, Heading, Item, Top, a_call, a_heading, a_place, a_question, an_asked, an_operand, an_overloads}
 use Rattle.wgsl_expressions.specs.Typing.{IsAsked, IsTyped, LineIs, State}
 use Rattle.wgsl_expressions.specs.declared.called.Called.{Called}
 use Rattle.wgsl_expressions.specs.declared.called.Called.TheVariants as calleds
@@ -64,10 +63,6 @@ head_view (heads.Array t n) = typed_array (view t) n
 head_view (heads.Struct t) = a_struct (view t)
 head_view (heads.Declared name ts result) = declared (string_bytes name) (map view ts.items) (option_map view result)
 
-abbrev pub head_found : {F : Type 0} → Result CodeHead F → Option Head
-head_found (Ok head) = Some (head_view head)
-head_found (Err fault) = None
-
 -- what is asked about a call
 abbrev pub called_view : Called → WgslRequest
 called_view (calleds.Overloaded call) = type_of (call_of call)
@@ -85,14 +80,14 @@ declared_view d = record { name = string_bytes d.name; meaning = meaning_view d.
 abbrev pub scope_view : CodeScope → Scope
 scope_view s = map declared_view (reverse s.declared.items)
 
--- a type and how many types are inside it, or None where there is a fault
-abbrev pub type_found : {F : Type 0} → Result («Type» × ℕ) F → Option (WgslType × ℕ)
-type_found (Ok found) = Some (view found.0, found.1)
-type_found (Err fault) = None
+-- a value as `shown` shows it, or None where there is a fault
+abbrev pub found : {A B F : Type 0} → (A → B) → Result A F → Option B
+found shown (Ok x) = Some (shown x)
+found shown (Err fault) = None
 
-abbrev pub number_found : {F : Type 0} → Result ℕ F → Option ℕ
-number_found (Ok n) = Some n
-number_found (Err fault) = None
+-- a type and how many types are inside it
+abbrev pub type_found : {F : Type 0} → Result («Type» × ℕ) F → Option (WgslType × ℕ)
+type_found r = found (λ t. (view t.0, t.1)) r
 
 abbrev pub heading_view : CodeHeading → Heading
 heading_view h = record {
@@ -116,9 +111,7 @@ asked_view a = record { statement = a.statement; types = map view a.types.items;
 -- what was read, the last first
 abbrev pub item_view : CodeItem → Item
 item_view (items.Operand x) = an_operand (outcome_view x)
-item_view (items.Name count) = a_name count
-item_view (items.Operator count) = an_operator count
-item_view (items.Bracket at) = a_bracket at
+item_view (items.Place place) = a_place place
 item_view (items.Call call) = a_call (call_view call)
 item_view (items.Heading h) = a_heading (heading_view h)
 item_view (items.Asked a) = an_asked (asked_view a)
@@ -128,8 +121,20 @@ item_view (items.Overloads token) = an_overloads token
 abbrev pub items_view : List CodeItem → List Item
 items_view items = map item_view (reverse items)
 
-abbrev pub same : {A : Type 0} → A → A
-same x = x
+-- not out of memory
+abbrev pub IsMisread : Fail Misread → Type 0
+IsMisread (fails.Error misread) = Unit {0}
+IsMisread (fails.Memory e) = ⊥
+
+-- the error is a misread one only if N holds; of memory nothing is said
+abbrev pub Refuses : Type 0 → Fail Misread → Type 0
+Refuses N (fails.Error misread) = N
+Refuses N (fails.Memory e) = Unit {0}
+
+-- P holds of the value, and the error is a misread one only if N holds
+abbrev pub AnswersIn : {A : Type 0} → (A → Type 0) → Type 0 → Result A (Fail Misread) → Type 0
+AnswersIn P N (Ok x) = P x
+AnswersIn P N (Err e) = Refuses N e
 
 -- what was taken from the top, and the items below; the error is a misread one only if it isn't there
 abbrev pub Takes : {A B : Type 0} → (A → B) → Top B → List CodeItem → Result A (Fail Misread) → Type 0

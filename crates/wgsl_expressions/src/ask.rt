@@ -7,22 +7,16 @@ ghost use Rattle.wgsl_expressions.specs.Steps.{given};
 ghost use Rattle.wgsl_expressions.specs.Views.{IsFound, found_outcome, head_view, outcome_view, refused_view, shown, typed_view};
 
 use crate::called::asked_about;
-use crate::outcome::{Head, Outcome, Parts, Refused, Typed, behind, given, shown_type};
-use std::alloc::Global;
-use wgsl_core::ty::Type;
+use crate::outcome::{Refused, behind, given, shown_type};
+use crate::prelude::*;
 use wgsl_core::ty::form::Form as TypeForm;
 use wgsl_forms::expression::is_const_expression;
-use wgsl_forms::form::Referent;
 use wgsl_forms::member::is_swizzle;
-use wgsl_requests::answers::Answer;
 use wgsl_requests::ask::answer;
-use wgsl_requests::reply::Made;
-use wgsl_requests::requests::{Call, Form, Request};
+use wgsl_requests::requests::{Call, Form};
 use wgsl_requests::write::write;
-use wgsl_standard::callee::{Callee, can_be_const_expression};
-use wgsl_standard::operand::Operand;
+use wgsl_standard::callee::can_be_const_expression;
 use wgsl_standard::substitution::built;
-use wgsl_syntax::operator::{BinaryOperator, UnaryOperator};
 
 /// The type that is answered, or the text of the answer.
 type Found = Result<Type, String>;

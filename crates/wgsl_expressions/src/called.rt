@@ -5,15 +5,9 @@ ghost use Rattle.wgsl_expressions.specs.Outcomes.{asked_with, marked};
 ghost use Rattle.wgsl_expressions.specs.Statements.{question_on};
 ghost use Rattle.wgsl_expressions.specs.Views.{called_view, head_view};
 
-use crate::outcome::Head;
-use crate::statement::Question;
-use wgsl_core::ty::Type;
-use wgsl_forms::form::Referent;
-use wgsl_forms::lists::Taker;
+use crate::prelude::*;
 use wgsl_requests::call_forms::form_of_call;
-use wgsl_requests::requests::{Call, Form, Request};
-use wgsl_standard::callee::Callee;
-use wgsl_standard::operand::Operand;
+use wgsl_requests::requests::{Call, Form};
 
 /// What is asked about a call.
 #[derive(Clone, Copy)]
@@ -49,10 +43,7 @@ impl<'r> Called<'r> {
                 Question::Resolution => Request::Resolution(call),
                 Question::Explanation => Request::Explanation(call),
             },
-            Called::Form(form) => Request::Form(form),
-            Called::Declared(name, values, types) => {
-                Request::Fit(Taker::Function(name), values, types)
-            }
+            Called::Form(_) | Called::Declared(_, _, _) => self.request(),
         }
     }
 }

@@ -6,23 +6,14 @@ ghost use Rattle.wgsl_expressions.specs.Typing.{MovesBy, MovesIn, NotedBy, TextI
 ghost use Rattle.wgsl_expressions.specs.Views.{AsksIn, Finds, IsAskedLine, IsTypedText, Moves, items_view, scope_view, source_view};
 
 use crate::heading::{declare_function, declare_struct};
-use crate::item::{Item, Items};
-use crate::misread::{Misread, Read, Wanted, expecting};
-use crate::outcome::Outcome;
+use crate::misread::expecting;
+use crate::prelude::*;
 use crate::request_token::{as_asked, as_operand};
-use crate::scope::Scope;
-use crate::source::Source;
 use crate::step::step;
-use std::alloc::Global;
-use wgsl_core::error::Fail;
 use wgsl_reader::expected::may_stand_behind;
-use wgsl_reader::kind::Kind;
 use wgsl_reader::lists::tokens_of;
-use wgsl_reader::mark::Mark;
-use wgsl_reader::read::{Event, read};
+use wgsl_reader::read::read;
 use wgsl_reader::rule::Rule;
-use wgsl_reader::token::Token;
-use wgsl_requests::reply::Made;
 use wgsl_spelling::operator::binary_of;
 
 /// What is expected where a token of such a kind may stand.

@@ -1,18 +1,13 @@
 // What is declared in front of a request: structs and functions.
 ghost use Rattle.std.specs.Prelude.{◌≡◌, ◌+◌, ◌<◌, IfOk, map, string_bytes};
 ghost use Rattle.wgsl_expressions.specs.Prelude.{member_view, view, named};
-ghost use Rattle.wgsl_expressions.specs.Headings.{Attributed, Changed, Headed, MemberIn, Membered, Numbered, Resulted, attributes, declared_by, function_declared, struct_declared, struct_of, struct_on, with_attribute, with_member, with_result};
+ghost use Rattle.wgsl_expressions.specs.Stack.{Attributed, Changed, Headed, MemberIn, Membered, Numbered, Resulted, attributes, declared_by, function_declared, struct_declared, struct_of, struct_on, with_attribute, with_member, with_result};
 ghost use Rattle.wgsl_expressions.specs.Views.{Does, Moves, Takes, declared_view, heading_view, items_view, scope_view, source_view};
 
-use crate::item::{Item, Items, push, take_heading, take_name};
-use crate::misread::{Read, Wanted, untyped};
-use crate::outcome::MOST_INSIDE;
-use crate::scope::{Meaning, Scope};
-use crate::source::{Source, between, first_count};
-use std::alloc::Global;
-use wgsl_core::ty::{StructMemberType, StructType, Type};
-use wgsl_reader::read::Event;
-use wgsl_requests::reply::Made;
+use crate::item::{push, take_heading, take_place};
+use crate::prelude::*;
+use crate::source::{between, first_count};
+use wgsl_core::ty::StructMemberType;
 
 /// A struct with its members so far, or a function with its parameters so far.
 #[derive(Drop)]
@@ -54,7 +49,7 @@ pub enum Attribute {
 pub fn put_attribute(source: &Source<'_>, index: usize, items: &mut Items) -> Read<()>
     ensures { Does (Attributed (source_view source.now) index (items_view items.old.items)) items.new.items result }
 {
-    let from = take_name(source, items)?;
+    let from = take_place(source, items)?;
     let noted = source.noted(from, index);
     match attribute_named(source.text_at(first_count(noted))) {
         Some(attribute) => put_number(source, attribute, noted, items),
@@ -98,8 +93,8 @@ fn set_attribute(source: &Source<'_>, which: Attribute, number: u32, items: &mut
 pub fn put_member(source: &Source<'_>, scope: &Scope, index: usize, items: &mut Items) -> Read<()>
     ensures { Does (Membered (source_view source.now) (scope_view scope.now) index (items_view items.old.items)) items.new.items result }
 {
-    let from = take_name(source, items)?;
-    let named = take_name(source, items)?;
+    let from = take_place(source, items)?;
+    let named = take_place(source, items)?;
     let name = source.text_at(first_count(source.noted(named, from)));
     match source.type_noted(scope, source.noted(from, index))? {
         Ok((ty, inside)) => put_type(source, name, ty, inside, items),
@@ -175,7 +170,7 @@ fn types_of(alloc: Global, members: Vec<StructMemberType>) -> Made<Vec<Type>>
 pub fn put_result(source: &Source<'_>, scope: &Scope, index: usize, items: &mut Items) -> Read<()>
     ensures { Does (Resulted (source_view source.now) (scope_view scope.now) index (items_view items.old.items)) items.new.items result }
 {
-    let from = take_name(source, items)?;
+    let from = take_place(source, items)?;
     match source.type_noted(scope, source.noted(from, index))? {
         Ok((ty, _)) => put_result_type(source, ty, items),
         Err(fault) => Err(untyped(fault, Wanted::Type)),

@@ -1,17 +1,11 @@
 // What was read of a request and isn't yet part of anything else.
 ghost use Rattle.std.specs.Prelude.{◌≡◌, ◌∷◌, Some, map};
-ghost use Rattle.wgsl_expressions.specs.Reading.{IsMisread};
-ghost use Rattle.wgsl_expressions.specs.Stack.{asked_on, bracket_on, call_on, heading_on, name_on, operand_on, operator_on, with_operand};
-ghost use Rattle.wgsl_expressions.specs.Views.{Does, Takes, asked_view, call_view, heading_view, item_view, items_view, outcome_view, same};
+ghost use Rattle.wgsl_expressions.specs.Stack.{asked_on, call_on, heading_on, operand_on, place_on, with_operand};
+ghost use Rattle.wgsl_expressions.specs.Views.{IsMisread, Does, Takes, asked_view, call_view, heading_view, item_view, items_view, outcome_view};
 
 use crate::heading::Heading;
-use crate::misread::{Misread, Read, Wanted};
-use crate::outcome::{Head, Outcome, Parts, is_too_deep};
-use crate::source::Source;
-use crate::statement::{Question, Statement};
-use wgsl_core::error::Fail;
-use wgsl_core::ty::Type;
-use wgsl_reader::token::Token;
+use crate::outcome::is_too_deep;
+use crate::prelude::*;
 
 /// A call with its arguments so far.
 #[derive(Drop)]
@@ -34,12 +28,9 @@ pub struct Asked {
 #[derive(Drop)]
 pub enum Item {
     Operand(Outcome),
-    /// A name, by the number of tokens up to it.
-    Name(usize),
-    /// An operator, by the number of tokens up to it.
-    Operator(usize),
-    /// The `[` behind an operand, by the index of its byte.
-    Bracket(usize),
+    /// A name, by the index at which it is noted; an operator, by the number of tokens up to it; the `[` behind an operand, by
+    /// the index of its byte.
+    Place(usize),
     Call(Call),
     Heading(Heading),
     Asked(Asked),
@@ -81,32 +72,12 @@ pub fn take_operand(source: &Source<'_>, items: &mut Items) -> Read<Outcome>
     }
 }
 
-/// Takes the name on top, by the number of tokens up to it.
-pub fn take_name(source: &Source<'_>, items: &mut Items) -> Read<usize>
-    ensures { Takes same (name_on (items_view items.old.items)) items.new.items result }
+/// Takes the name, the operator or the bracket on top, by the number of its place.
+pub fn take_place(source: &Source<'_>, items: &mut Items) -> Read<usize>
+    ensures { Takes (λ n. n) (place_on (items_view items.old.items)) items.new.items result }
 {
     match items.pop() {
-        Some(Item::Name(count)) => Ok(count),
-        other => Err(without(source, other)),
-    }
-}
-
-/// Takes the operator on top, by the number of tokens up to it.
-pub fn take_operator(source: &Source<'_>, items: &mut Items) -> Read<usize>
-    ensures { Takes same (operator_on (items_view items.old.items)) items.new.items result }
-{
-    match items.pop() {
-        Some(Item::Operator(count)) => Ok(count),
-        other => Err(without(source, other)),
-    }
-}
-
-/// Takes the bracket on top, by the index of its byte.
-pub fn take_bracket(source: &Source<'_>, items: &mut Items) -> Read<usize>
-    ensures { Takes same (bracket_on (items_view items.old.items)) items.new.items result }
-{
-    match items.pop() {
-        Some(Item::Bracket(at)) => Ok(at),
+        Some(Item::Place(place)) => Ok(place),
         other => Err(without(source, other)),
     }
 }

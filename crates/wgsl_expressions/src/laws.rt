@@ -2,9 +2,8 @@
 ghost use Rattle.std.specs.Prelude.{◌≡◌, ℕ, List, Option};
 ghost use Rattle.wgsl_requests.specs.Replies.{ReplyText};
 ghost use Rattle.wgsl_expressions.specs.Outcomes.{Outcome};
-ghost use Rattle.wgsl_expressions.specs.Replies.{IsStandardReply};
-ghost use Rattle.wgsl_expressions.specs.Scopes.{Scope};
-ghost use Rattle.wgsl_expressions.specs.Typing.{IsTyped};
+ghost use Rattle.wgsl_expressions.specs.Typing.{IsStandardReply, IsTyped};
+ghost use Rattle.wgsl_expressions.specs.Source.{Scope};
 
 /// With the names of a scope, a text is at most one expression, with a type or a first part that has none.
 pub fn one_outcome()

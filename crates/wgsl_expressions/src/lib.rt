@@ -4,16 +4,15 @@
 mod ask;
 mod called;
 pub mod expression;
-mod form;
 mod heading;
 mod item;
 pub mod laws;
-pub mod line;
 pub mod literal;
 pub mod misread;
 mod name;
 pub mod outcome;
-mod reply;
+mod prelude;
+pub mod reply;
 mod request_token;
 pub mod scope;
 mod source;

@@ -1,7 +1,8 @@
 // The types of literals.
-ghost use Rattle.std.specs.Prelude.{◌≡◌, nat_eq};
+ghost use Rattle.std.specs.Prelude.{◌≡◌};
 ghost use Rattle.std.specs.List.{list_any};
-ghost use Rattle.wgsl_expressions.specs.Literals.{abstract_type, ends_in, has_digits_alone, is_binary_exponent, is_float_sign, is_hexadecimal, type_by_suffix, type_of_literal, type_of_number};
+ghost use Rattle.wgsl_constants.specs.Literals.{ends_with, is_hexadecimal};
+ghost use Rattle.wgsl_expressions.specs.RequestTokens.{abstract_type, has_digits_alone, is_binary_exponent, is_float_sign, type_by_suffix, type_of_literal, type_of_number};
 
 use wgsl_reader::kind::Kind;
 use wgsl_syntax::scalar::Scalar;
@@ -19,12 +20,12 @@ pub fn type_of_literal(kind: Kind, text: &[u8]) -> Scalar
 fn type_of_number(number: &[u8]) -> Scalar
     ensures { result ≡ type_of_number number.now }
 {
-    if ends_in(b'u', number) {
+    if ends_with(b'u', number) {
         Scalar::U32
-    } else if ends_in(b'i', number) {
+    } else if ends_with(b'i', number) {
         Scalar::I32
     } else if has_digits_alone(number) {
-        abstract_type(has_point(number))
+        abstract_type(number.contains(&b'.'))
     } else {
         type_by_suffix(number)
     }
@@ -33,9 +34,9 @@ fn type_of_number(number: &[u8]) -> Scalar
 fn type_by_suffix(number: &[u8]) -> Scalar
     ensures { result ≡ type_by_suffix number.now }
 {
-    if ends_in(b'f', number) {
+    if ends_with(b'f', number) {
         Scalar::F32
-    } else if ends_in(b'h', number) {
+    } else if ends_with(b'h', number) {
         Scalar::F16
     } else {
         abstract_type(has_float_sign(number))
@@ -62,22 +63,13 @@ fn has_digits_alone(number: &[u8]) -> bool
 fn is_hexadecimal(number: &[u8]) -> bool
     ensures { result ≡ is_hexadecimal number.now }
 {
-    match number {
-        [first, second, ..] => *first == b'0' && (*second == b'x' || *second == b'X'),
-        _ => false,
-    }
+    matches!(number, [b'0', b'x' | b'X', ..])
 }
 
 fn has_binary_exponent(number: &[u8]) -> bool
     ensures { result ≡ list_any is_binary_exponent number.now }
 {
     number.iter().any(|byte| *byte == b'p' || *byte == b'P')
-}
-
-fn has_point(number: &[u8]) -> bool
-    ensures { result ≡ list_any (λ byte. nat_eq byte 46) number.now }
-{
-    number.iter().any(|byte| *byte == b'.')
 }
 
 fn has_float_sign(number: &[u8]) -> bool
@@ -92,11 +84,11 @@ fn is_float_sign(byte: u8) -> bool
     matches!(byte, b'.' | b'e' | b'E' | b'p' | b'P')
 }
 
-fn ends_in(last: u8, number: &[u8]) -> bool
-    ensures { result ≡ ends_in last number.now }
+fn ends_with(last: u8, number: &[u8]) -> bool
+    ensures { result ≡ ends_with last number.now }
 {
-    match number.get(number.len().saturating_sub(1)) {
-        Some(byte) => *byte == last,
-        None => false,
+    match number {
+        [.., byte] => *byte == last,
+        [] => false,
     }
 }

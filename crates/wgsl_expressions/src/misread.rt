@@ -1,8 +1,7 @@
 // Why a text is no request.
-ghost use Rattle.wgsl_expressions.specs.Reading.{IsMisread};
+ghost use Rattle.wgsl_expressions.specs.Views.{IsMisread};
 
-use wgsl_core::error::Fail;
-use wgsl_spelling::fault::{Cause, Fault};
+use crate::prelude::*;
 
 /// What was expected in place of a token.
 #[derive(Clone, Copy)]

@@ -1,28 +1,19 @@
 // What is called by a name.
 ghost use Rattle.std.specs.Prelude.{◌≡◌, IfOk, None, Some, map, option_map, string_bytes};
 ghost use Rattle.wgsl_expressions.specs.Prelude.{parameter_view, view, wgsl_spelling};
-ghost use Rattle.wgsl_expressions.specs.Names.{constructor_of, function_with, head_noted, is_constructor, other_head, plain_head, with_type};
+ghost use Rattle.wgsl_expressions.specs.Source.{constructor_of, function_with, head_noted, is_constructor, other_head, plain_head, with_type};
 ghost use Rattle.wgsl_expressions.specs.Outcomes.{declared};
-ghost use Rattle.wgsl_expressions.specs.Views.{head_found, head_view, meaning_view, scope_view, source_view};
+ghost use Rattle.wgsl_expressions.specs.Views.{found as shown_in, head_view, meaning_view, scope_view, source_view};
 
-use crate::outcome::Head;
-use crate::scope::{Meaning, Scope};
-use crate::source::{Source, between, first_count};
-use std::alloc::Global;
-use std::fmt::Write;
-use wgsl_core::signature::TpltParam;
-use wgsl_core::ty::Type;
+use crate::prelude::*;
+use crate::source::{between, first_count};
 use wgsl_core::ty::form::Form;
 use wgsl_core::ty::show::ShownType;
-use wgsl_reader::read::Event;
-use wgsl_requests::reply::Made;
-use wgsl_spelling::fault::Fault;
-use wgsl_standard::callee::{Callee, overloads};
-use wgsl_syntax::rules::RuleSet;
+use wgsl_standard::callee::overloads;
 
 /// What is called by the name and the list that are noted, or why they are no type.
 pub fn head_noted(source: &Source<'_>, scope: &Scope, events: &[Event]) -> Made<Result<Head, Fault>>
-    ensures { IfOk result (λ found. head_found found ≡ head_noted (source_view source.now) (scope_view scope.now) events.now) }
+    ensures { IfOk result (λ found. shown_in head_view found ≡ head_noted (source_view source.now) (scope_view scope.now) events.now) }
 {
     match source.type_noted(scope, events)? {
         Ok((ty, _)) => {
@@ -43,13 +34,11 @@ fn constructor_of(alloc: Global, ty: &Type) -> Made<Head>
 {
     match ty.form() {
         Form::Vector(n, of) => {
-            let mut name = String::new(alloc);
-            write!(name, "vec{n}")?;
+            let name = format!(in alloc; "vec{n}")?;
             Ok(Head::Constructor(name, Some(with_type(alloc, of)?)))
         }
         Form::Matrix(columns, rows, of) => {
-            let mut name = String::new(alloc);
-            write!(name, "mat{columns}x{rows}")?;
+            let name = format!(in alloc; "mat{columns}x{rows}")?;
             Ok(Head::Constructor(name, Some(with_type(alloc, of)?)))
         }
         Form::Array(count, of) => Ok(Head::Array(of.clone(alloc)?, count)),
@@ -63,9 +52,7 @@ fn spelling_of(alloc: Global, ty: &Type) -> Made<String>
     ensures { IfOk result (λ text. string_bytes text ≡ wgsl_spelling (view ty.now)) }
 {
     let rules = RuleSet::Standard;
-    let mut text = String::new(alloc);
-    write!(text, "{}", ShownType { ty, rules })?;
-    Ok(text)
+    format!(in alloc; "{}", ShownType { ty, rules })
 }
 
 /// The template that is a type.

@@ -5,13 +5,8 @@ ghost use Rattle.wgsl_expressions.specs.Outcomes.{has_layer, is_deeper, is_outco
 ghost use Rattle.wgsl_expressions.specs.Steps.{given};
 ghost use Rattle.wgsl_expressions.specs.Views.{outcome_view, refused_view, shown, typed_view};
 
-use std::alloc::Global;
-use wgsl_core::signature::TpltParam;
-use wgsl_core::ty::Type;
+use crate::prelude::*;
 use wgsl_core::ty::form::Form;
-use wgsl_forms::form::Referent;
-use wgsl_requests::reply::Made;
-use wgsl_syntax::operator::{BinaryOperator, UnaryOperator};
 
 /// An expression, by its type.
 #[derive(Drop)]
@@ -87,20 +82,17 @@ pub(crate) fn with_part(parts: Parts, part: Outcome) -> Made<Parts>
     ensures { IfOk result (λ all. shown (λ v. map typed_view v.items) refused_view all
         ≡ with_part (shown (λ v. map typed_view v.items) refused_view parts) (outcome_view part)) }
 {
-    let mut typed = match parts {
-        Ok(typed) => typed,
-        Err(refused) => {
-            drop(part);
-            return Ok(Err(refused));
-        }
-    };
-    match part {
-        Ok(part) => {
+    match (parts, part) {
+        (Ok(mut typed), Ok(part)) => {
             typed.push(part)?;
             Ok(Ok(typed))
         }
-        Err(refused) => {
+        (Ok(typed), Err(refused)) => {
             drop(typed);
+            Ok(Err(refused))
+        }
+        (Err(refused), part) => {
+            drop(part);
             Ok(Err(refused))
         }
     }

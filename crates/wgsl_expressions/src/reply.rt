@@ -1,41 +1,64 @@
-// What is replied to a request.
-ghost use Rattle.std.specs.Prelude.{◌≡◌, ◌++◌, [], IfOk, Some, map, option_map, string_bytes};
+// One line in WGSL, from its bytes to its reply.
+ghost use Rattle.std.specs.Prelude.{◌≡◌, ◌<◌, ◌≤◌, ◌++◌, [], IfOk, IsOkAnd, IsUtf8, Ok, Some, length, map, option_map, string_bytes};
 ghost use Rattle.wgsl_expressions.specs.Prelude.{struct_view, view, common, answer_view, request_view, written_view, text_kind};
 ghost use Rattle.wgsl_requests.specs.Replies.{IsReplyOf, IsUnreadable, Replies};
 ghost use Rattle.wgsl_expressions.specs.Outcomes.{asked, asked_with, operand};
-ghost use Rattle.wgsl_expressions.specs.Replies.{AnswersItem, AnswersQuestion, outcome_kind, outcome_text};
+ghost use Rattle.wgsl_expressions.specs.Typing.{AnswersItem, AnswersQuestion, IsBlank, IsReplyToText, IsStandardReply, outcome_kind, outcome_text};
 ghost use Rattle.wgsl_expressions.specs.Statements.{only_struct, other_request, rank_of, reason_or_none, request_of, request_on, signature_or_text, size_of, struct_of, told};
 ghost use Rattle.wgsl_expressions.specs.Stack.{a_question, an_asked};
 ghost use Rattle.wgsl_expressions.specs.Views.{asked_view, call_view, head_view, item_view, outcome_view, typed_view};
 
 use crate::ask::{operand_of, operands_by, referent_of};
 use crate::called::asked_about;
-use crate::form::form_of;
-use crate::item::{Asked, Call, Item};
-use crate::misread::Wanted;
-use crate::outcome::{Head, Outcome, Typed, shown_type};
-use crate::statement::{Question, Statement};
-use crate::why::{Replied, Why};
-use std::alloc::Global;
+use crate::expression::item_of_line;
+use crate::item::Call;
+use crate::outcome::shown_type;
+use crate::prelude::*;
+use crate::statement::form_of;
+use std::str::from_utf8;
 use wgsl_core::ty::form::Form;
-use wgsl_core::ty::{StructType, Type};
-use wgsl_forms::form::Referent;
-use wgsl_forms::lists::Taker;
-use wgsl_requests::answers::Answer;
 use wgsl_requests::ask::answer;
-use wgsl_requests::write::write_common as write_common_of;
 use wgsl_requests::fast::write_type;
-use wgsl_requests::reply::{Made, ReplyKind, TextKind};
-use wgsl_requests::requests::Request;
+use wgsl_requests::reply::{LONGEST, TextKind};
 use wgsl_requests::write::overloads::write_signature;
-use wgsl_requests::write::{write, write_answer_to};
-use wgsl_spelling::word::word;
-use wgsl_standard::operand::Operand;
-use wgsl_syntax::rules::RuleSet;
+use wgsl_requests::write::{write, write_answer_to, write_common as write_common_of};
 use wgsl_types::typed::typed_lines;
 
+/// The kind of the reply to a line, by WGSL's own rules. An answer is written at the end of the text.
+pub fn write_standard_reply(alloc: Global, request: &[u8], text: &mut String) -> Replied
+    ensures too_long { LONGEST < length request.now
+        → result ≡ Ok (ReplyKind.Unreadable Why.TooLong) }
+    ensures no_text { ¬ IsUtf8 request.now → IsOkAnd result IsUnreadable }
+    ensures blank { length request.now ≤ LONGEST → IsBlank request.now
+        → IfOk result (λ kind. kind ≡ ReplyKind.Nothing) }
+    ensures reply { Replies (IsStandardReply request.now) text.old text.new result }
+{
+    if request.len() > LONGEST {
+        return Ok(ReplyKind::Unreadable(Why::TooLong));
+    }
+    match from_utf8(request) {
+        Ok(line) => write_reply_to_text(alloc, line, text),
+        Err(_) => Ok(ReplyKind::Unreadable(Why::NotUtf8)),
+    }
+}
+
+/// Writes the reply to a line in WGSL.
+fn write_reply_to_text(alloc: Global, line: &str, text: &mut String) -> Replied
+    ensures blank { IsBlank line.now → IfOk result (λ kind. kind ≡ ReplyKind.Nothing) }
+    ensures reply { Replies (IsReplyToText line.now) text.old text.new result }
+{
+    match item_of_line(alloc, line) {
+        Ok(Some(item)) => write_item(alloc, line, item, text),
+        Ok(None) => Ok(ReplyKind::Nothing),
+        Err(Fail::Error(Misread { at, wanted })) => Ok(ReplyKind::Unreadable(Why::Misread(
+            at, wanted,
+        ))),
+        Err(Fail::Memory(error)) => Err(error),
+    }
+}
+
 /// Writes what is replied to what a line is, and returns of which kind that is.
-pub fn write_item(alloc: Global, line: &str, item: Item, text: &mut String) -> Replied
+fn write_item(alloc: Global, line: &str, item: Item, text: &mut String) -> Replied
     ensures { Replies (AnswersItem line.now (item_view item)) text.old text.new result }
 {
     match item {

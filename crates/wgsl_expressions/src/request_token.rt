@@ -1,11 +1,9 @@
 // The tokens of a request, whose first word and `const` have kinds of their own.
 ghost use Rattle.std.specs.Prelude.{◌≡◌, ◌+◌, ◌<◌, drop, length};
 ghost use Rattle.wgsl_expressions.specs.Prelude.{word, named};
-ghost use Rattle.wgsl_expressions.specs.RequestTokens.{as_operand, asked_behind, asked_kind, is_colon, is_overloads, kind_or, may_begin_behind, next_kind, question_of, questions};
+ghost use Rattle.wgsl_expressions.specs.RequestTokens.{as_operand, asked_behind, asked_kind, is_colon, is_overloads, may_begin_behind, next_kind, question_of, questions};
 
-use wgsl_reader::kind::Kind;
-use wgsl_reader::token::Token;
-use wgsl_spelling::word::word;
+use crate::prelude::*;
 
 /// Gives each token the kind that it has in a request: the first word of what is asked one of its own, `const` that of one in front of
 /// an operand's type, and what stands behind `overloads` that of a name.
@@ -41,7 +39,7 @@ fn asked_kind(text: &str, before: Kind, token: Token, next: Kind) -> Kind
     if is_overloads(before) {
         Kind::Name
     } else if may_begin_behind(before) && !is_colon(next) {
-        kind_or(as_operand(token.kind), question_of(text, token))
+        question_of(text, token).unwrap_or(as_operand(token.kind))
     } else {
         as_operand(token.kind)
     }
@@ -57,15 +55,6 @@ fn is_colon(kind: Kind) -> bool
     ensures { result ≡ is_colon kind }
 {
     matches!(kind, Kind::Colon)
-}
-
-fn kind_or(kind: Kind, other: Option<Kind>) -> Kind
-    ensures { result ≡ kind_or kind other }
-{
-    match other {
-        Some(other) => other,
-        None => kind,
-    }
 }
 
 fn may_begin_behind(kind: Kind) -> bool

@@ -1,12 +1,10 @@
 // The names that a text declares.
 ghost use Rattle.std.specs.Prelude.{◌≡◌, ◌∷◌, [], IfOk, map, option_map, string_bytes};
 ghost use Rattle.wgsl_core.specs.View.{view};
-ghost use Rattle.wgsl_expressions.specs.Scopes.{find, last_result, type_named};
+ghost use Rattle.wgsl_expressions.specs.Source.{find, last_result, type_named};
 ghost use Rattle.wgsl_expressions.specs.Views.{declared_view, meaning_view, scope_view};
 
-use std::alloc::Global;
-use wgsl_core::ty::Type;
-use wgsl_requests::reply::Made;
+use crate::prelude::*;
 
 /// What a name is declared as.
 #[derive(Drop)]

@@ -2,24 +2,14 @@
 ghost use Rattle.std.specs.Prelude.{◌≡◌, ◌-◌, IfOk, option_map, slice_get, slice_range};
 ghost use Rattle.wgsl_core.specs.View.{view};
 ghost use Rattle.wgsl_spelling.specs.Seen.{chain_of};
-ghost use Rattle.wgsl_expressions.specs.Reading.{IsMisread};
 ghost use Rattle.wgsl_expressions.specs.Source.{byte_at, declared_in, first_count, kind_at, noted, number_noted, text_at, type_in, type_noted};
-ghost use Rattle.wgsl_expressions.specs.Views.{number_found, scope_view, source_view, type_found};
+ghost use Rattle.wgsl_expressions.specs.Views.{IsMisread, found as shown_in, scope_view, source_view, type_found};
 
-use crate::misread::{Misread, Wanted, expecting};
-use crate::outcome::MOST_INSIDE;
-use crate::scope::Scope;
-use std::alloc::Global;
-use wgsl_core::error::Fail;
-use wgsl_core::ty::Type;
-use wgsl_reader::kind::Kind;
-use wgsl_reader::read::Event;
-use wgsl_reader::token::Token;
-use wgsl_requests::reply::Made;
+use crate::misread::expecting;
+use crate::prelude::*;
 use wgsl_spelling::chain::Chain;
-use wgsl_spelling::fault::{Cause, Fault, Stop};
+use wgsl_spelling::fault::Stop;
 use wgsl_spelling::spelled::{chain_of_events, count_of_events};
-use wgsl_spelling::word::word;
 
 /// A type with the number of types inside it, or why there is none.
 pub type Noted = Result<(Type, usize), Fault>;
@@ -96,7 +86,7 @@ impl<'t> Source<'t> {
 
     /// The number that is noted, or why none is.
     pub fn number_noted(&self, events: &[Event]) -> Made<Result<u32, Fault>>
-        ensures { IfOk result (λ found. number_found found ≡ number_noted (source_view self.now) events.now) }
+        ensures { IfOk result (λ found. shown_in (λ n. n) found ≡ number_noted (source_view self.now) events.now) }
     {
         match count_of_events(self.alloc, self.text, self.tokens, events) {
             Ok(count) => Ok(u32::try_from(count).map_err(|_| fault(

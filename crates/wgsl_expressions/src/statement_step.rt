@@ -1,28 +1,18 @@
 // What is done with declarations and statements, by what is noted.
-ghost use Rattle.std.specs.Prelude.{◌≡◌, ◌∷◌, IfOk, Some, map, option_map};
+ghost use Rattle.std.specs.Prelude.{◌≡◌, ◌∷◌, IfOk, Some, map, option_map, option_to_list};
 ghost use Rattle.wgsl_core.specs.View.{view};
 ghost use Rattle.wgsl_expressions.specs.Stack.{an_asked};
-ghost use Rattle.wgsl_expressions.specs.Statements.{listed, stated, types_of, with_access, with_space};
+ghost use Rattle.wgsl_expressions.specs.Statements.{stated, types_of, with_access, with_space};
 ghost use Rattle.wgsl_expressions.specs.Steps.{Annotated, Asks, Assigned, Assigns, AssignsBy, Begun, Changes, Increments, InSpace, OfType, Overloads, Value, WithAccess, WithStruct};
 ghost use Rattle.wgsl_expressions.specs.Views.{Does, items_view, outcome_view, refused_view, scope_view, shown, source_view, typed_view};
 
 use crate::heading::take_struct;
-use crate::item::{
-    Asked, Call, Item, Items, push, take_asked, take_call, take_name, take_operand, take_operator,
-};
-use crate::misread::{Read, Wanted, untyped};
-use crate::outcome::{Outcome, Parts, with_part};
-use crate::scope::Scope;
-use crate::source::Source;
-use crate::statement::{Question, Statement, assignment_of, statement_of, with_access, with_space};
-use std::alloc::Global;
-use wgsl_core::ty::Type;
-use wgsl_reader::kind::Kind;
-use wgsl_requests::reply::Made;
-use wgsl_spelling::fault::{Cause, Expected};
-use wgsl_syntax::address::{AccessMode, AddressSpace, access_named};
-use wgsl_syntax::operator::AssignmentOperator;
-use wgsl_syntax::rules::RuleSet;
+use crate::item::{Call, push, take_asked, take_call, take_operand, take_place};
+use crate::outcome::with_part;
+use crate::prelude::*;
+use crate::statement::{assignment_of, statement_of, with_access, with_space};
+use wgsl_spelling::fault::Expected;
+use wgsl_syntax::address::access_named;
 
 /// `let`, `if`, `size`
 pub fn begin(source: &Source<'_>, scope: &Scope, count: usize, items: &mut Items) -> Read<()>
@@ -57,7 +47,7 @@ fn types_of(alloc: Global, scope: &Scope, kind: Kind) -> Made<Option<Vec<Type>>>
 
 /// A list of the type, if there is one.
 fn listed(alloc: Global, ty: Option<&Type>) -> Made<Vec<Type>>
-    ensures { IfOk result (λ types. map view types.items ≡ listed (option_map (λ t. view t.now) ty.entry)) }
+    ensures { IfOk result (λ types. map view types.items ≡ option_to_list (option_map (λ t. view t.now) ty.entry)) }
 {
     let mut types = Vec::new(alloc);
     if let Some(ty) = ty {
@@ -125,7 +115,7 @@ fn expected(expected: Expected) -> Wanted {
 pub fn annotate(source: &Source<'_>, scope: &Scope, index: usize, items: &mut Items) -> Read<()>
     ensures { Does (Annotated (source_view source.now) (scope_view scope.now) index (items_view items.old.items)) items.new.items result }
 {
-    let from = take_name(source, items)?;
+    let from = take_place(source, items)?;
     match source.type_noted(scope, source.noted(from, index))? {
         Ok((ty, _)) => put_type(source, ty, items),
         Err(fault) => Err(untyped(fault, Wanted::Type)),
@@ -173,7 +163,7 @@ pub fn assign_by(source: &Source<'_>, items: &mut Items) -> Read<()>
     ensures { Does (AssignsBy (source_view source.now) (items_view items.old.items)) items.new.items result }
 {
     let y = take_operand(source, items)?;
-    let count = take_operator(source, items)?;
+    let count = take_place(source, items)?;
     let x = take_operand(source, items)?;
     match assignment_of(source.text_at(count)) {
         Some(operator) => put_assignment(source.alloc, operator, x, y, items),

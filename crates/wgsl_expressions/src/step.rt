@@ -5,35 +5,24 @@ ghost use Rattle.wgsl_expressions.specs.Outcomes.{IsCalled, no_parts, overloaded
 ghost use Rattle.wgsl_expressions.specs.Prelude.{a_binary};
 ghost use Rattle.wgsl_expressions.specs.Source.{noted};
 ghost use Rattle.wgsl_expressions.specs.Stack.{a_call};
-ghost use Rattle.wgsl_expressions.specs.Steps.{Argument, Binary, Calls, Element, Ends, Given, Literal, Member, Opens, Unary, asks_behind, asks_call, begun, call_with, given};
+ghost use Rattle.wgsl_expressions.specs.Steps.{Argument, Binary, Calls, Element, Ends, Given, Literal, Member, Opens, Unary, asks_behind, asks_call, call_with, given};
 ghost use Rattle.wgsl_expressions.specs.Typing.{Steps};
 ghost use Rattle.wgsl_expressions.specs.Views.{Does, call_view, head_view, items_view, outcome_view, refused_view, scope_view, shown, source_view, typed_view};
 
 use crate::ask::{binary, call, element, member};
 use crate::heading::{begin_heading, put_attribute, put_member as put_declared, put_result};
-use crate::item::{
-    Call, Item, Items, push, put, take_bracket, take_call, take_name, take_operand, take_operator,
-};
+use crate::item::{Call, push, put, take_call, take_operand, take_place};
 use crate::literal::type_of_literal;
-use crate::misread::{Read, Wanted, untyped};
 use crate::name::head_noted;
-use crate::outcome::{Head, Outcome, given, with_part};
-use crate::scope::Scope;
-use crate::source::{Source, first_count};
-use crate::statement::Question;
+use crate::outcome::{given, with_part};
+use crate::prelude::*;
+use crate::source::first_count;
 use crate::statement_step::{
     annotate, assign, assign_by, begin, increment, put_access, put_asked, put_overloads, put_space,
     put_struct_type, put_value,
 };
-use std::alloc::Global;
-use wgsl_core::ty::Type;
 use wgsl_forms::concrete::has_abstract_type;
-use wgsl_reader::mark::Mark;
-use wgsl_reader::read::Event;
-use wgsl_requests::reply::Made;
 use wgsl_spelling::operator::{binary_of, unary_of};
-use wgsl_spelling::word::word;
-use wgsl_syntax::operator::BinaryOperator;
 
 /// Does with the items what is noted at an index, with the names of a scope: the last item is on top.
 #[inline(always)]
@@ -48,16 +37,16 @@ pub fn step(
 {
     match event.mark {
         Mark::Literal => put_literal(source, event.at, items),
-        Mark::Name | Mark::AttributeName => push(Item::Name(index), items),
+        Mark::Name | Mark::AttributeName => push(Item::Place(index), items),
         Mark::Value => put_given(source, scope, index, false, items),
         Mark::Constant => put_given(source, scope, index, true, items),
         Mark::Open => open(source, scope, index, items),
-        Mark::OpenElement => push(Item::Bracket(source.byte_at(event.at)), items),
+        Mark::OpenElement => push(Item::Place(source.byte_at(event.at)), items),
         Mark::Argument => put_argument(source, items),
         Mark::Call => put_call(source, index, items),
         Mark::MemberOf => put_member(source, event.at, items),
         Mark::Element => put_element(source, items),
-        Mark::Operator => push(Item::Operator(event.at), items),
+        Mark::Operator => push(Item::Place(event.at), items),
         Mark::Unary => put_unary(source, index, items),
         Mark::Binary => put_binary(source, index, items),
         Mark::Keyword => begin(source, scope, event.at, items),
@@ -106,7 +95,7 @@ fn put_given(
 ) -> Read<()>
     ensures { Does (Given is_const (source_view source.now) (scope_view scope.now) index (items_view items.old.items)) items.new.items result }
 {
-    let from = take_name(source, items)?;
+    let from = take_place(source, items)?;
     let noted = source.noted(from, index);
     match source.type_noted(scope, noted)? {
         Ok((ty, _)) => {
@@ -122,7 +111,7 @@ fn put_given(
 fn open(source: &Source<'_>, scope: &Scope, index: usize, items: &mut Items) -> Read<()>
     ensures { Does (Opens (source_view source.now) (scope_view scope.now) index (items_view items.old.items)) items.new.items result }
 {
-    let from = take_name(source, items)?;
+    let from = take_place(source, items)?;
     let noted = source.noted(from, index);
     let count = first_count(noted);
     match head_noted(source, scope, noted)? {
@@ -133,7 +122,7 @@ fn open(source: &Source<'_>, scope: &Scope, index: usize, items: &mut Items) -> 
 
 /// Begins a call, whose first byte is at that index.
 fn push_call(alloc: Global, at: usize, head: Head, items: &mut Items) -> Read<()>
-    ensures { Does (λ r. r ≡ Some (a_call (begun at (head_view head)) ∷ items_view items.old.items)) items.new.items result }
+    ensures { Does (λ r. r ≡ Some (a_call (call_with at (head_view head) no_parts) ∷ items_view items.old.items)) items.new.items result }
 {
     let parts = Ok(Vec::with_capacity(alloc, 4)?);
     push(Item::Call(Call { at, head, parts }), items)
@@ -229,7 +218,7 @@ fn put_element(source: &Source<'_>, items: &mut Items) -> Read<()>
     ensures { Does (Element (items_view items.old.items)) items.new.items result }
 {
     let index = take_operand(source, items)?;
-    let at = take_bracket(source, items)?;
+    let at = take_place(source, items)?;
     let x = take_operand(source, items)?;
     let outcome = element(source.alloc, at, x, index)?;
     put(source, outcome, items)
@@ -240,7 +229,7 @@ fn put_unary(source: &Source<'_>, index: usize, items: &mut Items) -> Read<()>
     ensures { Does (Unary (source_view source.now) index (items_view items.old.items)) items.new.items result }
 {
     let x = take_operand(source, items)?;
-    let count = take_operator(source, items)?;
+    let count = take_place(source, items)?;
     match unary_of(source.kind_at(count)) {
         Some(operator) => {
             let at = source.byte_at(count);
@@ -260,7 +249,7 @@ fn put_binary(source: &Source<'_>, index: usize, items: &mut Items) -> Read<()>
     ensures { Does (Binary (source_view source.now) index (items_view items.old.items)) items.new.items result }
 {
     let y = take_operand(source, items)?;
-    let count = take_operator(source, items)?;
+    let count = take_place(source, items)?;
     let x = take_operand(source, items)?;
     match binary_of(source.kind_at(count)) {
         Some(operator) => {

@@ -1,11 +1,9 @@
 // Why a line in WGSL can't be read, as a message.
-use crate::misread::Wanted;
-use wgsl_requests::reply::{Made, ReplyKind};
+use crate::prelude::*;
 use wgsl_requests::write::overloads::write_suggestion;
 use wgsl_requests::write::word::SHOWN;
-use wgsl_spelling::fault::Cause;
 use wgsl_spelling::meant::meant;
-use wgsl_standard::callee::{Callee, overloads};
+use wgsl_standard::callee::overloads;
 
 /// Why a line can't be read.
 #[derive(Clone, Copy)]

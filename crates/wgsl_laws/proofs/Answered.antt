@@ -13,7 +13,7 @@ use Rattle.wgsl_laws.proofs.Sizes.{exact_alignment, exact_size, layout_or_cause,
 use Rattle.wgsl_requests.proofs.OneAnswer.{HasOne}
 use Rattle.wgsl_requests.proofs.OneAnswer.{EachAnswered}
 use Rattle.wgsl_expressions.specs.Outcomes.{Outcome}
-use Rattle.wgsl_expressions.specs.Scopes.{Scope}
+use Rattle.wgsl_expressions.specs.Source.{Scope}
 use Rattle.wgsl_expressions.specs.Typing.{IsTyped}
 use Rattle.wgsl_expressions.proofs.OneOutcome.{one_outcome}
 use Rattle.std.proofs.Common.{Bool}

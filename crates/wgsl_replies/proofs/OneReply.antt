@@ -1,8 +1,7 @@
 -- By a set of rules, the bytes of a request have one reply, if every request has an answer.
 use Rattle.std.proofs.Common.{◌≡◌, ◌∙◌, ◌<◌, ℕ, Bool, true, false, List, arith, inl, inr, length, refl, sym}
 use Rattle.wgsl_requests.specs.Replies.{ReplyText, has_line_feed, unreadable}
-use Rattle.wgsl_requests.proofs.OneAnswer.{HasOne}
-use Rattle.wgsl_requests.proofs.OneAnswer.{EachAnswered}
+use Rattle.wgsl_requests.proofs.OneAnswer.{HasOne, EachAnswered}
 use Rattle.wgsl_syntax.specs.declared.rules.RuleSet.{RuleSet}
 use Rattle.wgsl_syntax.specs.declared.rules.RuleSet.TheVariants.{Ported, Standard}
 use Rattle.wgsl_words.proofs.OneReply.{one_to_line}

@@ -9,7 +9,7 @@ use Rattle.wgsl_syntax.specs.declared.rules.RuleSet.{RuleSet}
 use Rattle.wgsl_syntax.specs.declared.rules.RuleSet.TheVariants.{Ported, Standard}
 use Rattle.wgsl_words.specs.Requests.{IsReplyToLine as IsReplyToWords}
 use Rattle.wgsl_words.specs.Reader.{words_of}
-use Rattle.wgsl_expressions.specs.Replies.{IsBlank as has_no_tokens, IsStandardReply}
+use Rattle.wgsl_expressions.specs.Typing.{IsBlank as has_no_tokens, IsStandardReply}
 use Rattle.wgsl_words.specs.declared.why.Why.TheVariants as words
 use Rattle.wgsl_expressions.specs.declared.why.Why.TheVariants as line
 use Rattle.wgsl_replies.specs.declared.request.Reply.{Reply}

@@ -6,7 +6,7 @@ ghost use Rattle.wgsl_words.specs.Reader.{words_of};
 ghost use Rattle.wgsl_replies.specs.Replies.{IsBlank, IsExplanation, IsReplyTo, IsReplyToLine, reply_text, too_long, why_seen};
 
 use std::alloc::{AllocError, Global};
-use wgsl_expressions::line::write_standard_reply;
+use wgsl_expressions::reply::write_standard_reply;
 use wgsl_expressions::why::{Why as LineWhy, write_why as write_why_of_line};
 use wgsl_requests::reply::has_line_feed;
 pub use wgsl_requests::reply::{LONGEST, ReplyKind, TextKind};

@@ -1,5 +1,5 @@
 use Rattle.wgsl_expressions.proofs.Common.{◌≡◌, ◌<◌, length, ap, ◌∙◌, arith, rules, common_steps}
-use Rattle.wgsl_expressions.proofs.AskedTokens.{one_more, same_length}
+use Rattle.wgsl_expressions.proofs.Steps.{one_more, same_length}
 use Rattle.wgsl_expressions.proofs.expression.all_as_operands.Goals as goal
 
 pub loop-at-preserved : goal.loop-at-preserved

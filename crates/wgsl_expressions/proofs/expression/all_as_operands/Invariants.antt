@@ -1,5 +1,5 @@
 use Rattle.std.proofs.Common.{◌≡◌, ◌≤◌, ◌-◌, length}
-use Rattle.wgsl_expressions.proofs.AskedTokens.{so_far}
+use Rattle.wgsl_expressions.proofs.Steps.{so_far}
 use Rattle.wgsl_expressions.proofs.expression.all_as_operands.Given as goal
 
 abbrev pub invariant-loop-at : goal.invariant-loop-at

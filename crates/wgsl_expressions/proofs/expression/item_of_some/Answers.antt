@@ -2,7 +2,7 @@ use Rattle.wgsl_expressions.proofs.Common.{◌≡◌, ◌∙◌, ℕ, [], List, 
 use Rattle.wgsl_expressions.proofs.Common.{asked_behind, Scope, Finds, Misread}
 use Rattle.wgsl_expressions.specs.Typing.{TokensAre}
 use Rattle.wgsl_expressions.specs.declared.item.Item.{Item}
-use Rattle.wgsl_expressions.proofs.AskedTokens.{as_many}
+use Rattle.wgsl_expressions.proofs.Steps.{as_many}
 use Rattle.wgsl_expressions.proofs.expression.item_of_some.Goals as goal
 
 -- without names, of the tokens as they are asked

@@ -1,5 +1,5 @@
 use Rattle.wgsl_expressions.proofs.Common.{◌<◌, length, sym, arith, rules, common_steps}
-use Rattle.wgsl_expressions.proofs.AskedTokens.{asked_next}
+use Rattle.wgsl_expressions.proofs.Steps.{asked_next}
 use Rattle.wgsl_expressions.proofs.request_token.as_asked.Goals as goal
 
 pub loop-at-preserved : goal.loop-at-preserved
