@@ -5,20 +5,17 @@ use Rattle.wgsl_standard.specs.Callees.{unknown_name}
 use Rattle.wgsl_standard.specs.Lines.{lines_named}
 use Rattle.wgsl_requests.specs.Answers.{Answers, WgslAnswer, WgslLayout, a_number, a_size, a_common_type, a_type, a_value, some_offsets, a_layout, a_type_of, a_resolution_of, some_lines, a_form_type, a_fit, rank_is, common_is, unary_is, binary_is, size_is, offsets_are, layout_is, ctor_is, call_is, type_of_is, resolution_of_is, explanation_of_is, unknown_is, overloads_of_are, form_is, fit_is}
 use Rattle.wgsl_requests.specs.Requests.{WgslRequest, rank, common, unary, binary, size, offsets, layout, ctor, call, type_of, resolution_of, explanation_of, overloads_of, form_of, fit_of}
-use Rattle.wgsl_requests.proofs.OneAnswer.{one_form_type, one_explanation, one_resolution, one_type}
-use Rattle.wgsl_laws.proofs.Calls.{a_call}
-use Rattle.wgsl_laws.proofs.Constructors.{a_constructor}
+use Rattle.wgsl_requests.proofs.OneAnswer.{one_form_type, one_explanation, one_resolution, one_type, HasOne, EachAnswered}
+use Rattle.wgsl_laws.proofs.Calls.{a_call, a_constructor}
 use Rattle.wgsl_laws.proofs.Operators.{a_rank, a_received, a_binary, a_unary}
 use Rattle.wgsl_laws.proofs.Sizes.{exact_alignment, exact_size, layout_or_cause, offsets_or_cause}
-use Rattle.wgsl_requests.proofs.OneAnswer.{HasOne}
-use Rattle.wgsl_requests.proofs.OneAnswer.{EachAnswered}
 use Rattle.wgsl_expressions.specs.Outcomes.{Outcome}
 use Rattle.wgsl_expressions.specs.Source.{Scope}
 use Rattle.wgsl_expressions.specs.Typing.{IsTyped}
 use Rattle.wgsl_expressions.proofs.OneOutcome.{one_outcome}
 use Rattle.std.proofs.Common.{Bool}
 use Rattle.wgsl_lines.specs.Output.{Prints, is_readable, lines_of, printed_from}
-use Rattle.wgsl_lines.proofs.OneText.{one_text}
+use Rattle.wgsl_lines.proofs.Taken.{one_text}
 
 abbrev pub Answered : WgslRequest → Type 0
 Answered request = (a : WgslAnswer) × Answers request a

@@ -8,7 +8,7 @@ use Rattle.wgsl_rules.specs.layout.Layout.{IsExactly}
 use Rattle.wgsl_requests.specs.Answers.{IsReceivedCommon}
 use Rattle.wgsl_rules.proofs.conversion.Equations.{rank, rank_converts}
 use Rattle.wgsl_syntax.specs.declared.operator.BinaryOperator.{BinaryOperator}
-use Rattle.wgsl_syntax.specs.declared.operator.BinaryOperator.TheVariants.{ShortCircuitOr, ShortCircuitAnd, Addition, Subtraction, Multiplication, Division, Remainder, Equality, Inequality, LessThan, LessThanEqual, GreaterThan, GreaterThanEqual, BitwiseOr, BitwiseAnd, BitwiseXor, ShiftLeft, ShiftRight}
+use Rattle.wgsl_syntax.specs.declared.operator.BinaryOperator.TheVariants.{ShortCircuitOr, ShortCircuitAnd, Addition, Subtraction, Multiplication, Division, Remainder, BitwiseOr, BitwiseAnd, BitwiseXor, ShiftLeft, ShiftRight}
 use Rattle.wgsl_syntax.specs.declared.operator.UnaryOperator.{UnaryOperator}
 use Rattle.wgsl_syntax.specs.declared.operator.UnaryOperator.TheVariants.{LogicalNegation, Negation, BitwiseComplement, AddressOf, Indirection}
 use Rattle.wgsl_rules.specs.operators.Answers.{BinaryCandidate, HasCandidate, IsUnaryAnswer, IsOperatorAnswer}
@@ -181,17 +181,12 @@ a_row Subtraction = by_arithmetic Subtraction tt
 a_row Multiplication = by_arithmetic Multiplication tt
 a_row Division = by_arithmetic Division tt
 a_row Remainder = by_arithmetic Remainder tt
-a_row Equality = by_comparison Equality tt
-a_row Inequality = by_comparison Inequality tt
-a_row LessThan = by_comparison LessThan tt
-a_row LessThanEqual = by_comparison LessThanEqual tt
-a_row GreaterThan = by_comparison GreaterThan tt
-a_row GreaterThanEqual = by_comparison GreaterThanEqual tt
 a_row BitwiseOr = by_bits BitwiseOr tt
 a_row BitwiseAnd = by_bits BitwiseAnd tt
 a_row BitwiseXor = by_bits BitwiseXor tt
 a_row ShiftLeft = by_shift ShiftLeft tt
 a_row ShiftRight = by_shift ShiftRight tt
+a_row o = by_comparison o tt
 
 -- The answers
 

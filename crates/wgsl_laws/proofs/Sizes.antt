@@ -1,6 +1,6 @@
 -- The size and the alignment of a type, and the offsets and the layout of a struct, or a cause to have none.
 use Rattle.wgsl_laws.proofs.Common.{◌≡◌, ℕ, ◌*◌, ◌<◌, ◌≤◌, ◌^◌, ◌⊎◌, inl, inr, zero, suc, List, [], ◌∷◌, Option, Some, None, refl, ap, subst, ◌∙◌, arith, All}
-use Rattle.wgsl_laws.proofs.Common.{cases_lt, ℕ_discrete, RuleSet, Scalar, Bool, AbstractInt, AbstractFloat, I32, U32, F32, F16, I64, U64, F64, WgslType}
+use Rattle.wgsl_laws.proofs.Common.{cases_lt, ℕ_discrete, RuleSet, Scalar, AbstractInt, AbstractFloat, I32, U32, F32, F16, I64, U64, F64, WgslType}
 use Rattle.wgsl_laws.proofs.Common.{scalar, struct, atomic, Members, no_members, member, array, vec, mat, Aligned, end_of, least_total, never_both, starts}
 use Rattle.wgsl_laws.proofs.Common.{laid, no_less, no_earlier, all_aligned}
 use Rattle.std.specs.Int.{next_multiple_of}
@@ -21,16 +21,13 @@ exactly P one (inl h) = (Some h.0, λ n. (λ e. subst P (same_Some h.0 n e) h.1,
 exactly P one (inr none) = (None, λ n. (λ e. absurd (cc), λ k. absurd (none n k)))
 
 a_scalar_size : (s : Scalar) → Finds (IsScalarSize s)
-a_scalar_size Bool = inl (4, refl)
 a_scalar_size AbstractInt = inr (λ n h. h)
 a_scalar_size AbstractFloat = inr (λ n h. h)
-a_scalar_size I32 = inl (4, refl)
-a_scalar_size U32 = inl (4, refl)
-a_scalar_size F32 = inl (4, refl)
 a_scalar_size F16 = inl (2, refl)
 a_scalar_size I64 = inl (8, refl)
 a_scalar_size U64 = inl (8, refl)
 a_scalar_size F64 = inl (8, refl)
+a_scalar_size s = inl (4, refl)
 
 an_atomic_size : (t : WgslType) → Finds (IsAtomicSize t)
 an_atomic_size (scalar I64) = inl (8, refl)

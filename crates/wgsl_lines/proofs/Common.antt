@@ -9,7 +9,7 @@ pub use Rattle.std.specs.Io.KnownBytes.{Appends, Consumes, IsAtEnd, Keeps}
 pub use Rattle.std.specs.List.{AllZip, list_all}
 pub use Rattle.std.specs.Simd.Lanes.{chunk}
 pub use Rattle.wgsl_lines.specs.Output.{is_readable, lines_of, next_number, printed, printed_from, Prints, PrintsFirst, PrintsLines, PrintsUntil, PrintsUpTo}
-pub use Rattle.wgsl_lines.specs.Session.{AnswersLine, Ends, HasPrinted, HasStopped, HasTaken, IsAtStart, IsBetween, number_after, reply_of_kind, StopsAfter}
+pub use Rattle.wgsl_lines.specs.Output.{AnswersLine, Ends, HasPrinted, HasStopped, HasTaken, IsAtStart, IsBetween, number_after, reply_of_kind, StopsAfter}
 pub use Rattle.wgsl_lines.specs.declared.run.RunError.{RunError}
 pub use Rattle.wgsl_lines.specs.declared.run.RunError.TheVariants.{Memory, Read, Write}
 pub use Rattle.wgsl_lines.specs.declared.run.Session.{Session}

@@ -4,8 +4,7 @@ use Rattle.wgsl_lines.proofs.Common.{Keeps, ◌≢◌, Bool, ◌∷◌, Result, 
 use Rattle.wgsl_lines.proofs.Common.{Write, Memory, Session, Prints, PrintsFirst, PrintsUntil, AnswersLine, HasPrinted, HasStopped, HasTaken, IsAtStart}
 use Rattle.wgsl_lines.proofs.Common.{IsBetween, StopsAfter, RuleSet}
 use Rattle.std.specs.Prelude.{IfErr, IfOk, IfSome, MatchResult, OnErr, OnOk}
-use Rattle.wgsl_lines.proofs.OneText.{prints_first}
-use Rattle.wgsl_lines.proofs.Taken.{cut_of_all, cut_of_first, taken_last, taken_none, taken_so_far, until_none}
+use Rattle.wgsl_lines.proofs.Taken.{prints_first, cut_of_all, cut_of_first, taken_last, taken_none, taken_so_far, until_none}
 
 -- nothing is written
 pub appends_none : (now : Option (List ℕ)) → Appends now now []
@@ -48,6 +47,9 @@ pub record IsCutOff (answers : List ℕ) (before now : Option (List ℕ)) : Type
   pub answers_are : answers ≡ text ++ rest
   pub some : answers ≢ []
   pub written : Appends before now text
+
+pub cut_off : {answers : List ℕ} {before now : Option (List ℕ)} → (text : List ℕ) × (rest : List ℕ) × (answers ≡ text ++ rest) × Appends before now text → answers ≢ [] → IsCutOff answers before now
+cut_off cut some = record { text = cut.0; rest = cut.1; answers_are = cut.2; some = some; written = cut.3 }
 
 -- Between two reads: these bytes were read since the run began.
 pub record HasReached (rules : RuleSet) (input left start now : Option (List ℕ)) (session : Session) : Type 0 where

@@ -1,9 +1,8 @@
 // Lines in, answers out.
 ghost use Rattle.std.specs.Prelude.{◌≡◌, ◌+◌, ◌-◌, ◌^◌, ◌++◌, ℕ, List, [], IfErr, IfOk, IfSome, IsOk, IsOkUnless, OnErr, OnOk, MatchResult, Option, min, string_bytes};
 ghost use Rattle.std.specs.Io.KnownBytes.{Appends};
-ghost use Rattle.wgsl_lines.specs.Output.{Prints, PrintsFirst, PrintsUntil, bad_line, status_of};
+ghost use Rattle.wgsl_lines.specs.Output.{AnswersLine, HasPrinted, HasStopped, HasTaken, IsAtStart, IsBetween, Prints, PrintsFirst, PrintsUntil, StopsAfter, bad_line, reply_of_kind, status_of};
 ghost use Rattle.wgsl_lines.specs.declared.run.RunError.TheVariants.{Memory};
-ghost use Rattle.wgsl_lines.specs.Session.{reply_of_kind};
 ghost use Rattle.wgsl_replies.specs.Replies.{IsReplyToLine};
 
 use crate::line::{Line, split_line};
@@ -92,8 +91,6 @@ struct Session {
 }
 
 impl Session {
-    ghost use Rattle.wgsl_lines.specs.Session.{AnswersLine, HasPrinted, HasStopped, HasTaken, IsAtStart, IsBetween, StopsAfter};
-
     fn new(alloc: Global, program: &'static str) -> Result<Session, AllocError>
         ensures { IfOk result IsAtStart }
     {

@@ -1,6 +1,5 @@
 use Rattle.wgsl_requests.proofs.OneAnswer.{answer_once}
 use Rattle.wgsl_laws.proofs.laws.no_request_has_two_answers.Goals as goal
 
--- src/laws.rt:13:1
 pub returns : goal.returns
 returns c = answer_once

@@ -1,4 +1,4 @@
-use Rattle.wgsl_lines.proofs.OneText.{one_text}
+use Rattle.wgsl_lines.proofs.Taken.{one_text}
 use Rattle.wgsl_lines.proofs.laws.one_text.Goals as goal
 
 pub returns : goal.returns

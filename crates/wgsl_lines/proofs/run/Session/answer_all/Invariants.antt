@@ -1,4 +1,4 @@
-use Rattle.wgsl_lines.specs.Session.{IsAtStart}
+use Rattle.wgsl_lines.specs.Output.{IsAtStart}
 use Rattle.wgsl_lines.proofs.Steps.{HasReached}
 use Rattle.wgsl_lines.proofs.run.Session.answer_all.Given as goal
 

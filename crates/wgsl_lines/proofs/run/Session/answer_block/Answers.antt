@@ -1,5 +1,5 @@
 use Rattle.wgsl_lines.proofs.Common.{◌∙◌, string_bytes, subst, sym, err_from_is_err_and, HasStopped}
-use Rattle.wgsl_lines.proofs.Steps.{IsCutOff, block_cut, block_done, block_stops}
+use Rattle.wgsl_lines.proofs.Steps.{IsCutOff, block_cut, block_done, block_stops, cut_off}
 use Rattle.wgsl_lines.proofs.run.Session.answer_block.Goals as goal
 
 pub returns : goal.returns
@@ -11,13 +11,8 @@ pub returns-in_err-write_answers : goal.returns-in_err-write_answers
 returns-in_err-write_answers g c = λ bytes start at.
     let p = err_from_is_err_and c.from_residual.result c.from_residual.ensures.1 in
     let failed = c.in_err-write_answers.ensures in
-    let off : IsCutOff (string_bytes c.take-taken.new.self.answers) (g.W.Write.contents c.args.output.now) (g.W.Write.contents c.write_answers.new.output) = record {
-      text = failed.cut.0;
-      rest = failed.cut.1;
-      answers_are = failed.cut.2;
-      some = λ none. absurd (cc (failed.nothing none));
-      written = failed.cut.3;
-    } in
+    let off : IsCutOff (string_bytes c.take-taken.new.self.answers) (g.W.Write.contents c.args.output.now) (g.W.Write.contents c.write_answers.new.output) =
+    cut_off failed.cut (λ none. absurd (cc (failed.nothing none))) in
     rw p.1 (λ more. subst (HasStopped _ _ _ _) (sym (p.2 ∙ failed.err)) (block_cut _ bytes start _ _ _ c.take-taken.new.self at c.args.block.now (c.take-taken.ensures.so_far bytes at.text at.taken) off more))
 
 pub returns-in_err-taken : goal.returns-in_err-taken
