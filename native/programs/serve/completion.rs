@@ -269,10 +269,9 @@ fn loaded(ty: &Type) -> &Type {
 
 /// The components of a vector, and the swizzles that are in order: `xy`, `yz`, `xyz`, ..
 fn components(count: usize) -> impl Iterator<Item = String> {
-    let lengths =
-        (1..=count).flat_map(move |len| (0..=count - len).map(move |start| start..start + len));
-    let lengths: Vec<_> = lengths.collect();
-    ["xyzw", "rgba"].into_iter().flat_map(move |letters| {
-        lengths.clone().into_iter().map(move |range| letters[range].to_string())
-    })
+    let ranges = move |len| (0..=count - len).map(move |start| start..start + len);
+    let of_letters = move |letters: &'static str| {
+        (1..=count).flat_map(ranges).map(move |range| letters[range].to_string())
+    };
+    ["xyzw", "rgba"].into_iter().flat_map(of_letters)
 }

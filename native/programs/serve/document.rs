@@ -1,7 +1,7 @@
 //! A document that the client has opened, and what is known of it.
 
 use super::json::Json;
-use super::lines::{Encoding, Lines};
+use super::lines::{starts_of_lines, Encoding};
 use super::mend::mended;
 use std::cell::OnceCell;
 use std::ops::Range;
@@ -15,7 +15,9 @@ pub struct Document {
     pub uri: String,
     /// As the client counts.
     pub version: Json,
-    lines: Lines,
+    pub encoding: Encoding,
+    /// Where its lines begin.
+    pub starts: Vec<usize>,
     /// The text as it is.
     pub written: Module,
     mended: OnceCell<Module>,
@@ -31,49 +33,23 @@ pub struct Module {
 }
 
 impl Document {
-    pub fn new(uri: &str, text: &str, version: Json, encoding: Encoding) -> Document {
-        Document {
-            uri: uri.into(),
-            version,
-            lines: Lines::of(text, encoding),
-            written: Module::of(text.into()),
-            mended: OnceCell::new(),
-        }
-    }
-
-    pub fn position(&self, byte: usize) -> Json {
-        self.lines.position(&self.written.text, byte)
-    }
-
-    pub fn range(&self, bytes: &Range<usize>) -> Json {
-        self.lines.range(&self.written.text, bytes)
-    }
-
-    /// Bytes of it, as the client names them.
-    pub fn location(&self, bytes: &Range<usize>) -> Json {
-        object! { "uri": self.uri.as_str(), "range": self.range(bytes) }
-    }
-
-    pub fn byte(&self, position: &Json) -> Option<usize> {
-        self.lines.byte(&self.written.text, position)
-    }
-
-    pub fn bytes(&self, range: &Json) -> Option<Range<usize>> {
-        self.lines.bytes(&self.written.text, range)
+    pub fn new(uri: &str, text: String, version: Json, encoding: Encoding) -> Document {
+        let (starts, written) = (starts_of_lines(&text), Module::of(text));
+        Document { uri: uri.into(), version, encoding, starts, written, mended: OnceCell::new() }
     }
 
     /// The document after changes: each a text in place of a range of what is there, or of all. None if one can't be read.
-    pub fn changed(&self, changes: &[Json], version: Json, encoding: Encoding) -> Option<Document> {
+    pub fn changed(&self, changes: &[Json], version: Json) -> Option<Document> {
+        let with = |text, version| Document::new(&self.uri, text, version, self.encoding);
         let mut text = self.written.text.clone();
         for change in changes {
-            let range = change.get("range").filter(|range| **range != Json::Null);
-            let bytes = match range {
-                Some(range) => Lines::of(&text, encoding).bytes(&text, range)?,
-                None => 0..text.len(),
+            let bytes = match &change["range"] {
+                Json::Null => 0..text.len(),
+                range => with(text.clone(), Json::Null).bytes(range)?,
             };
             text.replace_range(bytes, change["text"].as_text()?);
         }
-        Some(Document::new(&self.uri, &text, version, encoding))
+        Some(with(text, version))
     }
 
     pub fn is_readable(&self) -> bool {
@@ -157,19 +133,14 @@ impl Module {
         let is_end =
             |index: &usize| matches!(self.kind(*index), Kind::Semicolon | Kind::CloseCurly);
         let start = (0..at).rev().find(is_end).map_or(0, |index| index + 1);
-        let (mut last, mut depth) = (self.end_of_head(at), 0);
-        while last < self.tokens().len() {
-            match self.kind(last) {
-                Kind::OpenCurly => depth += 1,
-                Kind::CloseCurly => depth -= 1,
-                _ => {}
-            }
-            if depth <= 0 {
-                break;
-            }
-            last += 1;
-        }
-        let end = self.tokens().get(last).map_or(self.text.len(), |token| token.at + token.len);
+        let mut depth = 0;
+        let is_last = |token: &&Token| {
+            depth += i32::from(token.kind == Kind::OpenCurly);
+            depth -= i32::from(token.kind == Kind::CloseCurly);
+            depth <= 0
+        };
+        let last = self.tokens()[self.end_of_head(at)..].iter().find(is_last);
+        let end = last.map_or(self.text.len(), |token| token.at + token.len);
         self.tokens().get(start).map_or(name.start, |token| token.at)..end
     }
 

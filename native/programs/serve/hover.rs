@@ -69,12 +69,11 @@ fn told_of_word(module: &Module, word: &Range<usize>) -> Option<String> {
     Some(code(&format!("{}{inferred}", module.head(&name))) + &of_struct.unwrap_or_default())
 }
 
-/// The size of a struct, if the name is that of one that has a layout.
+/// The size of the struct with a name, if it has a layout.
 fn layout(module: &Module, name: &str) -> Option<String> {
+    module.checked().struct_named(name)?;
     let of = module.layouts().structs.iter().find(|of| of.name == name)?;
-    let head = module.declared().into_iter().find(|(known, _)| known.text == name)?;
-    let is_struct = module.head(&head.1).starts_with("struct");
-    is_struct.then(|| format!("\n\nsize {}, alignment {}", of.size, of.align))
+    Some(format!("\n\nsize {}, alignment {}", of.size, of.align))
 }
 
 fn told_of_predeclared(word: &str) -> Option<String> {

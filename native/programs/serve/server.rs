@@ -167,10 +167,11 @@ impl<Output: Write> Server<Output> {
         let (version, encoding) = (document["version"].clone(), self.options.encoding);
         let changed = match (method, self.documents.get(uri)) {
             ("textDocument/didOpen", _) => {
-                document["text"].as_text().map(|text| Document::new(uri, text, version, encoding))
+                let text = document["text"].as_text();
+                text.map(|text| Document::new(uri, text.into(), version, encoding))
             }
             ("textDocument/didChange", Some(before)) => {
-                before.changed(params["contentChanges"].as_list(), version, encoding)
+                before.changed(params["contentChanges"].as_list(), version)
             }
             ("textDocument/didClose", Some(_)) => {
                 self.documents.remove(uri);
