@@ -33,17 +33,11 @@ fn faults_refer_to_declarations() {
 /// A fault has the nearest overloads, and no more than eight.
 #[test]
 fn faults_explain_overloads() {
-    for (text, count, nearest) in [
-        ("const a = -1u;", 1, "-(T) -> T, T: signed number: argument 1 is u32"),
-        ("const a = vec3<f32>(1, true);", 6, "vec3<T>(T, vec2<T>) -> vec3<T>, T: concrete scalar"),
-        ("fn f() { _ = textureSample(1, 1, 1, 1); }", 8, "textureSample("),
-        ("fn f(v: vec3f) { let a = mix(v, 1i, 1); }", 2, "mix(vecN<T>, vecN<T>, vecN<T>)"),
-        ("fn f() { foo(1); }", 0, ""),
-    ] {
-        let [fault] = &check(text).faults[..] else { panic!("{text}") };
-        assert_eq!(fault.notes.len(), count, "{text}: {fault:?}");
+    for [text, count, nearest] in rows("modules/overloads.txt") {
+        let [fault] = &check(&text).faults[..] else { panic!("{text}") };
+        assert_eq!(fault.notes.len().to_string(), count, "{text}: {fault:?}");
         let first = fault.notes.first().map_or("", |note| &note.message);
-        assert!(first.starts_with(nearest), "{text}: {first}");
+        assert!(first.starts_with(&nearest), "{text}: {first}");
         assert!(fault.notes.iter().all(|note| note.bytes == fault.bytes), "{text}");
     }
 }
@@ -123,18 +117,10 @@ fn a_host_declares_names() {
         ("other", Meaning::Unknown),
         ("time", Meaning::Unknown),
     ];
-    for (text, rules) in [
-        ("fn f(l: Light) -> Color { tile[1] *= time; noise(1); return l.color * noise(2, other) + Color(1).x; }", ""),
-        ("@fragment fn f() { tile = other.what[3]; noise(1); var c = Light(Color()); c = light; }", ""),
-        ("const a = count + 1; override b = scale * 2; var<private> v: array<f32, count>; const_assert count == 3;", ""),
-        ("const time = 1u; fn f(scale: u32) { let a: u32 = time + scale; let count = 1i; let b = count + 1i; }", ""),
-        ("struct Light { a: u32 } fn noise() -> u32 { return Light(1).a; }", ""),
-        ("fn f() { let a: i32 = time; let b = Color(true); count(); let c = Light(1); }", "type overload name type"),
-        ("const a = time; const b = scale; override c = time;", "type type type"),
-    ] {
-        let checked = check_in(&host, text);
+    for [text, rules] in rows("modules/host.txt") {
+        let checked = check_in(&host, &text);
         let found: Vec<_> = checked.faults.iter().map(|fault| fault.rule.word()).collect();
-        assert_eq!(found.join(" "), rules, "{text}: {:?}", checked.faults);
+        assert_eq!(found.join(" "), rules.trim_matches('-'), "{text}: {:?}", checked.faults);
     }
     let checked = check_in(&host, "const time = 1; fn f() { let a = Color( 1); }");
     let names: Vec<_> =

@@ -147,73 +147,25 @@ fn many_faults_are_cut() {
     }
 }
 
-/// A client is sent what it says that it can read.
+/// A client is sent what it can read and asks for, by the parameters of its `initialize`.
 #[test]
-fn capabilities_are_asked() {
-    let text = "const a = max(1, 2); const b = 1; const b = 2;";
-    let place = opened("a").with("position", Some(at(text, text.find("1,").unwrap())));
-    let plain = r#"{"textDocument": {"hover": {"contentFormat": ["plaintext"]}}}"#;
-    let fence = "```wgsl\n";
-    for (capabilities, kind, fence, label, notes) in [
-        (serving::BYTES, "markdown", fence, "[4, 5]", 1),
-        (plain, "plaintext", "", "\"T\"", 0),
-        ("{}", "plaintext", "", "\"T\"", 0),
-    ] {
-        let mut client = Client::start(capabilities, "null");
-        client.open("a", text);
-        let faults = client.faults()["diagnostics"].clone();
-        assert_eq!(faults.as_list()[0]["relatedInformation"].as_list().len(), notes);
-        let contents = client.ask("hover", place.clone())["contents"].clone();
-        assert_eq!(contents["kind"].as_text(), Some(kind));
-        let value = contents["value"].as_text().unwrap();
-        assert!(value.starts_with(&format!("{fence}1: AbstractInt")), "{value}");
-        let signatures = client.ask("signatureHelp", place.clone())["signatures"].clone();
-        let parameters = signatures.as_list()[0]["parameters"].clone();
-        assert_eq!(parameters.as_list()[0]["label"].to_string(), label);
-    }
-}
-
-/// What the server can do for a client that counts bytes and prepares renames.
-const CAPABILITIES: &str = r#"{"positionEncoding": "utf-8", "textDocumentSync": {"openClose": true, "change": 1},
-    "hoverProvider": true, "signatureHelpProvider": {"triggerCharacters": ["(", ","]},
-    "completionProvider": {"triggerCharacters": [".", "@", "<"]}, "definitionProvider": true, "referencesProvider": true,
-    "renameProvider": {"prepareProvider": true}, "documentSymbolProvider": true, "inlayHintProvider": true}"#;
-
-/// Positions count bytes or units of UTF-16, and lines end as in the protocol.
-#[test]
-fn positions_are_negotiated() {
-    let text = "/* é😀\u{2028} */ const a = 1;\r\nconst b = /*😀*/a;\rconst c = d;";
-    let start = |line: usize, character: usize| object! { "line": line, "character": character };
-    for (encodings, encoding, columns) in [
-        (r#"["utf-32", "utf-8", "utf-16"]"#, "utf-8", [22, 18]),
-        (r#"["utf-16", "utf-8"]"#, "utf-16", [17, 16]),
-        ("[]", "utf-16", [17, 16]),
-    ] {
-        let prepares = encoding == "utf-8";
-        let client_can = format!(
-            r#"{{"general": {{"positionEncodings": {encodings}}},
-            "textDocument": {{"rename": {{"prepareSupport": {prepares}}}}}}}"#
-        );
-        let params = object! { "capabilities": Json::read(&client_can).unwrap() };
+fn clients_have_options() {
+    for [params, text, asked, answers] in tables::rows::<4>("tables/clients.tsv") {
         let mut client = Client::spawn();
-        let reply = client.request("initialize", params);
-        let plain =
-            CAPABILITIES.replace("{\"prepareProvider\": true}", "true").replace("utf-8", encoding);
-        let expected = if prepares { CAPABILITIES } else { &plain };
-        assert_eq!(reply["result"]["capabilities"], Json::read(expected).unwrap());
-        client.open("a", text);
-        assert_eq!(client.faults()["diagnostics"].as_list()[0]["range"]["start"], start(2, 10));
-        let mut declared = |line, character| {
-            let params = opened("a").with("position", Some(start(line, character)));
-            client.ask("definition", params)["range"]["start"].clone()
-        };
-        assert_eq!(declared(1, columns[1]), start(0, columns[0]), "{encoding}");
-        // Behind the last character of a line is its end, and behind the last line that of the text.
-        assert_eq!(declared(1, 99), Json::Null);
-        assert_eq!(declared(0, columns[0] + 1), start(0, columns[0]));
-        // Inside of a character is in front of it.
-        assert_eq!(declared(1, 13), Json::Null);
-        assert_eq!(declared(99, 0), Json::Null);
+        let reply = client.request("initialize", Json::read(&params).unwrap());
+        client.open("a", &text);
+        let faults = client.faults()["diagnostics"].clone();
+        let found = asked.split(" + ").map(|asked| match asked.split_once(' ') {
+            Some((method, place)) => {
+                let position = Json::read(place).unwrap();
+                let whole = range(&text, &(0..text.len()));
+                let about = opened("a").with("position", Some(position)).with("range", Some(whole));
+                client.ask(method, about).to_string()
+            }
+            None if asked == "faults" => faults.to_string(),
+            None => reply["result"]["capabilities"].to_string(),
+        });
+        assert_eq!(found.collect::<Vec<_>>().join(" + "), answers, "{params}");
     }
 }
 
@@ -260,24 +212,6 @@ fn the_protocol_is_kept() {
     assert!(wrong.is_empty(), "{}", wrong.join("\n"));
 }
 
-/// Why no message can be found is told.
-#[test]
-fn a_broken_header_is_told() {
-    for (input, told) in [
-        ("a: b\n", "no line of a header"),
-        ("a\r\n", "no field of a header"),
-        ("a: b\r\n\r\n", "no length of a message"),
-    ] {
-        let mut program = Command::new(env!("CARGO_BIN_EXE_wgsl"));
-        program.arg("serve").stdin(Stdio::piped()).stdout(Stdio::piped()).stderr(Stdio::piped());
-        let mut child = program.spawn().unwrap();
-        child.stdin.take().unwrap().write_all(input.as_bytes()).unwrap();
-        let done = child.wait_with_output().unwrap();
-        assert_eq!((done.status.code(), done.stdout.len()), (Some(1), 0), "{input:?}");
-        assert_eq!(String::from_utf8(done.stderr).unwrap(), format!("wgsl: serve: {told}\n"));
-    }
-}
-
 /// A message may arrive in any pieces, and the input may end in any of its bytes.
 #[test]
 fn messages_are_cut_anywhere() {
@@ -319,53 +253,23 @@ fn a_long_document_is_served() {
     assert_eq!(client.end(), Some(0));
 }
 
-#[test]
-fn hints_are_turned_off() {
-    let text = "struct S { a: f32, b: vec3f } const c = 1;";
-    for (option, labels) in [
-        ("types", "0:; 12 bytes of padding; 16:; 4 bytes of padding"),
-        ("offsets", "12 bytes of padding; 4 bytes of padding; : AbstractInt"),
-        ("paddings", "0:; 16:; : AbstractInt"),
-    ] {
-        let mut client =
-            Client::start("{}", &format!(r#"{{"inlayHints": {{"{option}": false}}}}"#));
-        client.open("a", text);
-        let params = opened("a").with("range", Some(range(text, &(0..text.len()))));
-        let hints = client.ask("inlayHint", params);
-        let found = hints.as_list().iter().filter_map(|of| of["label"].as_text());
-        assert_eq!(found.collect::<Vec<_>>().join("; "), labels);
-    }
-}
-
-/// The arguments, with the status and how the output begins.
+/// The words behind `wgsl`, the input, the status, how the output begins, and what is told of an error.
 #[test]
 fn arguments_are_read() {
-    for (words, status, output) in [
-        (&["serve", "--help"][..], 0, "usage: wgsl serve"),
-        (&["serve", "-h"], 0, "usage: wgsl serve"),
-        (&["serve", "--stdio"], 1, ""),
-        (&["serve", "--stdio", "x"], 2, ""),
-        (&["serve", "x"], 2, ""),
-        (&["serves"], 2, ""),
-        (&["--help"], 0, "usage: wgsl check"),
-    ] {
+    for [words, input, status, output, told] in tables::rows::<5>("tables/serve.tsv") {
         let mut program = Command::new(env!("CARGO_BIN_EXE_wgsl"));
-        let done = program.args(words).stdin(Stdio::null()).output().unwrap();
-        let printed = String::from_utf8(done.stdout).unwrap();
-        assert_eq!(done.status.code(), Some(status), "{words:?}");
-        assert!(
-            printed.starts_with(output) && printed.is_empty() == output.is_empty(),
-            "{words:?}"
-        );
-        assert_eq!(printed.contains("serve"), status == 0, "{words:?}");
-        if words[0] == "serve" && status == 0 {
-            assert!(printed.contains("2 for wrong arguments."), "{printed}");
-        }
-        if words[0] == "serve" && status == 2 {
-            let told = "wgsl: serve takes no other argument than --stdio: see wgsl serve --help\n";
-            assert_eq!(done.stderr, told.as_bytes());
-        }
-        assert_eq!(done.stderr.is_empty(), status < 2, "{words:?}");
+        program.args(words.split(' ')).stdin(Stdio::piped()).stdout(Stdio::piped());
+        let mut child = program.stderr(Stdio::piped()).spawn().unwrap();
+        let _ = child.stdin.take().unwrap().write_all(input.as_bytes());
+        let done = child.wait_with_output().unwrap();
+        let [printed, notes] = [done.stdout, done.stderr].map(|it| String::from_utf8(it).unwrap());
+        assert_eq!(done.status.code().map(|code| code.to_string()), Some(status), "{words}");
+        assert!(printed.starts_with(&output), "{words}: {printed}");
+        assert_eq!(printed.is_empty(), output.is_empty(), "{words}: {printed}");
+        assert_eq!(notes.trim_end(), told, "{words}");
+        let is_help = words.starts_with("serve") && !output.is_empty();
+        assert_eq!(printed.contains("2 for wrong arguments."), is_help, "{printed}");
+        assert_eq!(printed.contains("serve"), !output.is_empty(), "{printed}");
     }
 }
 
@@ -440,6 +344,34 @@ fn answers_depend_on_the_text_alone() {
             [&mut client, &mut fresh].map(|client| client.request(&method, params.clone()));
         for part in ["result", "error"] {
             assert_eq!(mine[part], other[part], "{method} {byte}: {text}");
+        }
+    }
+}
+
+/// JSON is read as RFC 8259 says, and nothing else is. What is written is read back.
+#[test]
+fn json_is_read() {
+    let table = fs::read_to_string("tests/tables/json.tsv").unwrap();
+    for row in table.lines().filter(|row| !row.starts_with("# ")) {
+        let (text, value) = row.rsplit_once('\t').unwrap();
+        let found = Json::read(text);
+        let shown = found.as_ref().map_or_else(|at| format!("no {at}"), Json::to_string);
+        assert_eq!(shown, value, "{text}");
+        assert!(found.is_err() || Json::read(&shown) == found, "{text}");
+    }
+    for control in (0..0x20).map(char::from) {
+        let is_blank = matches!(control, '\t' | '\n' | '\r');
+        assert_eq!(Json::read(&format!("[1{control},2{control}]")).is_ok(), is_blank);
+        assert_eq!(Json::read(&format!("\"{control}\"")), Err(1), "{control:?}");
+        let text = Json::Text(control.into());
+        assert_eq!(Json::read(&text.to_string()), Ok(text));
+    }
+    for (depth, is_read) in
+        [(json::MAX_DEPTH, true), (json::MAX_DEPTH + 1, false), (1 << 20, false)]
+    {
+        for [open, inner, close] in [["[", "", "]"], ["{\"a\":", "1", "}"]] {
+            let text = format!("{}{inner}{}", open.repeat(depth), close.repeat(depth));
+            assert_eq!(Json::read(&text).is_ok(), is_read, "{depth}");
         }
     }
 }
