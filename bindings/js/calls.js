@@ -133,24 +133,16 @@ function explained(name, request) {
 }
 
 /** Answers a request by the rules of the Rust crate wgsl-types. */
-export function answer(request) {
-  return answered("wgsl_answer", "wgsl_explain", request);
-}
+export const answer = (request) => answered("wgsl_answer", "wgsl_explain", request);
 
 /** Answers a request by WGSL's own rules. */
-export function standardAnswer(request) {
-  return answered("wgsl_standard_answer", "wgsl_standard_explain", request);
-}
+export const standardAnswer = (request) => answered("wgsl_standard_answer", "wgsl_standard_explain", request);
 
 /** Why a request can't be read by the rules of the Rust crate wgsl-types, or null if it can. */
-export function explain(request) {
-  return explained("wgsl_explain", request);
-}
+export const explain = (request) => explained("wgsl_explain", request);
 
 /** Why a request can't be read by WGSL's own rules, or null if it can. */
-export function standardExplain(request) {
-  return explained("wgsl_standard_explain", request);
-}
+export const standardExplain = (request) => explained("wgsl_standard_explain", request);
 
 /** The version of the library. */
 export function version() {

@@ -1,8 +1,8 @@
 // The calculator: an expression over types, or any request. The library answers `type`, `resolve` and `why`; by the ported rules it
 // answers a request in words.
 import { Refused, Unreadable, answer, standardAnswer } from "wgsl-types-proved";
-import { typeIn } from "page/checked";
-import { coded, h } from "page/dom";
+import { typeIn } from "page/checked.js";
+import { coded, h } from "page/dom.js";
 
 const OURS = "WGSL’s own rules", PORTED = "Rules of the crate wgsl-types", SHADER = "WGSL’s own rules, in the shader above";
 const HIDDEN = "No type: an error in the shader hides it.";

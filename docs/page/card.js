@@ -1,9 +1,9 @@
 // A struct: its map, and the table of its members; or why it has no layout.
-import { colored } from "page/colors";
-import { coded, h } from "page/dom";
-import { ByteMap, bytes, hueOf } from "page/map";
-import { rowCount } from "page/pieces";
-import { problem } from "page/problems";
+import { colored } from "page/colors.js";
+import { coded, h } from "page/dom.js";
+import { ByteMap, bytes, hueOf } from "page/map.js";
+import { rowCount } from "page/pieces.js";
+import { problem } from "page/problems.js";
 
 const SHOWN_ERRORS = 10; // in a card
 const EAGER_CARDS = 8; // more are filled when they come near to the window

@@ -1,8 +1,8 @@
 // What is known of the text. A worker finds it: after a key it is old for a while, and stands where the text has moved to.
-import { declaredNames } from "page/wgsl";
-import { compiledModule } from "wgsl/calls";
+import { declaredNames } from "page/wgsl.js";
+import { compiledModule } from "wgsl/calls.js";
 
-const worker = new Worker(import.meta.resolve("page/worker"), { type: "module" }), waiting = [];
+const worker = new Worker(import.meta.resolve("page/worker.js"), { type: "module" }), waiting = [];
 let wanted = null, isBusy = false;
 
 /** What was found last, with its text. */

@@ -1,6 +1,6 @@
 // Code in colours: its names, its types and its numbers.
-import { h } from "page/dom";
-import { commentsOf } from "page/wgsl";
+import { h } from "page/dom.js";
+import { commentsOf } from "page/wgsl.js";
 
 const COLORED = 40_000; // characters; behind them the text has one colour
 const TOKEN = /#.*|[\p{XID_Start}_][\p{XID_Continue}]*|(?:0[xX][\da-fA-F]+|(?:\d+\.?\d*|\.\d+)(?:[eE][+-]?\d+)?)[iufh]?/gu;

@@ -1,11 +1,9 @@
-/** An element with properties and children. `ariaLabel` is the attribute `aria-label`. */
+export const at = (id) => document.getElementById(id);
+export const source = at("source");
+
+/** An element with properties and children. */
 export function h(tag, properties = {}, ...children) {
-  const element = document.createElement(tag);
-  for (const [name, value] of Object.entries(properties)) {
-    if (name.startsWith("aria")) element.setAttribute(`aria-${name.slice(4).toLowerCase()}`, value);
-    else if (name === "style" || name === "role" || name === "scope") element.setAttribute(name, value);
-    else element[name] = value;
-  }
+  const element = Object.assign(document.createElement(tag), properties);
   element.append(...children);
   return element;
 }

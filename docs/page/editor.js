@@ -1,11 +1,10 @@
 // The text in colours, under the textarea, whose own letters can't be seen, and the types of `let`s. Only the lines near to those in view
 // are drawn.
-import { letsOf } from "page/checked";
-import { colored, declaredTypes } from "page/colors";
-import { h } from "page/dom";
-import { commentsOf } from "page/wgsl";
+import { letsOf } from "page/checked.js";
+import { colored, declaredTypes } from "page/colors.js";
+import { at, h, source } from "page/dom.js";
+import { commentsOf } from "page/wgsl.js";
 
-const at = (id) => document.getElementById(id), source = at("source");
 const NEAR = 20; // lines
 let starts = [0], comments = [], declared = new Set(), drawn = [0, 0];
 let view = { line: 20, top: 0, height: 0 }; // as it was measured last: at a key that would lay out the page once more

@@ -1,6 +1,6 @@
 // The map of a struct's bytes: rows of 16, each member in its colour, and padding hatched.
-import { counted, h } from "page/dom";
-import { UNFOLDED_ROWS, paddingOf, piecesOfRow, runsOf } from "page/pieces";
+import { counted, h } from "page/dom.js";
+import { UNFOLDED_ROWS, paddingOf, piecesOfRow, runsOf } from "page/pieces.js";
 
 const HUES = [255, 150, 70, 325, 200, 25, 110, 290];
 const STEPS = { ArrowRight: 1, ArrowDown: 1, ArrowLeft: -1, ArrowUp: -1, Home: -Infinity, End: Infinity };

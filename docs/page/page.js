@@ -1,18 +1,17 @@
 // The page: a text on the left, what it lays out on the right, and the calculator below.
 import { SourceError, code } from "wgsl-types-proved";
-import { hashOf, stateOf } from "page/address";
-import { answersIn, answersTo } from "page/calculator";
-import { newBrokenCard, newCard, newNote, spaceOf, typed } from "page/card";
-import { check, last, namesShader, problemsOf } from "page/checked";
-import { colored } from "page/colors";
-import { counted, h, showKept } from "page/dom";
-import { showColors, showHints } from "page/editor";
-import { examples, tries } from "page/examples";
-import { tellCaret, watch } from "page/pointed";
-import { follow, showProblems } from "page/problems";
+import { hashOf, stateOf } from "page/address.js";
+import { answersIn, answersTo } from "page/calculator.js";
+import { newBrokenCard, newCard, newNote, spaceOf, typed } from "page/card.js";
+import { check, last, namesShader, problemsOf } from "page/checked.js";
+import { colored } from "page/colors.js";
+import { at, counted, h, showKept, source } from "page/dom.js";
+import { showColors, showHints } from "page/editor.js";
+import { examples, tries } from "page/examples.js";
+import { tellCaret, watch } from "page/pointed.js";
+import { follow, showProblems } from "page/problems.js";
 
-const at = (id) => document.getElementById(id);
-const source = at("source"), request = at("request");
+const request = at("request");
 const LANGUAGES = { c: "C", rust: "Rust", numpy: "numpy", typescript: "TypeScript" };
 const SAVED_AFTER = 400, DRAWN_AFTER = 120; // milliseconds without a key
 const DRAWN_AT_ONCE = 4; // cards

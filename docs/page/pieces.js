@@ -1,32 +1,13 @@
 // What the bytes of a struct hold: its parts and the gaps between them.
+import { partsOf, sizeOf } from "wgsl/view.js";
 
 const ROW = 16;
 const SHOWN_ROWS = 7; // of a member; more are folded
 export const UNFOLDED_ROWS = 512;
-const SCALAR_SIZES = { bool: 4, i32: 4, u32: 4, f32: 4, f16: 2, i64: 8, u64: 8, f64: 8 };
-
-const scalarOf = (type) => (type.component ?? type).name;
-
-/** How many bytes a type takes; a runtime-sized array those of one element. */
-function sizeOf(type) {
-  switch (type.kind) {
-    case "struct": return type.struct.size;
-    case "array": return (type.count ?? 1) * type.stride;
-    case "matrix": return type.columns * type.stride;
-    case "vector": return type.count * SCALAR_SIZES[scalarOf(type)];
-    default: return SCALAR_SIZES[scalarOf(type)];
-  }
-}
-
-/** Elements or columns: how many of which type, and how far apart. */
-function layersOf(type) {
-  if (type.kind === "array") return { count: type.count ?? 1, inner: type.element, stride: type.stride };
-  return { count: type.columns, inner: { kind: "vector", count: type.rows, component: type.component }, stride: type.stride };
-}
 
 function spelled(type) {
-  if (type.kind === "vector") return `vec${type.count}<${scalarOf(type)}>`;
-  return type.kind === "atomic" ? `atomic<${scalarOf(type)}>` : type.name;
+  if (type.kind === "vector") return `vec${type.count}<${type.component.name}>`;
+  return type.kind === "atomic" ? `atomic<${type.component.name}>` : type.name;
 }
 
 /** What lies between two bytes of a type that begins at `at`: parts and gaps, in order. */
@@ -35,7 +16,7 @@ function* piecesOfType(type, at, path, from, to) {
   if (type.kind === "struct") {
     yield* piecesOfMembers(type.struct.members, at, path, at + type.struct.size, from, to);
   } else if (type.kind === "array" || type.kind === "matrix") {
-    const { count, inner, stride } = layersOf(type);
+    const { count, inner, stride } = partsOf(type);
     for (let index = Math.max(0, Math.floor((from - at) / stride)); index < count; index++) {
       const start = at + index * stride;
       if (start >= to) return;
@@ -43,7 +24,7 @@ function* piecesOfType(type, at, path, from, to) {
       yield* gap(start + sizeOf(inner), start + stride, from, to, `${path}[${index}]`);
     }
   } else {
-    yield { from: at, to: at + sizeOf(type), path, type: spelled(type), step: SCALAR_SIZES[scalarOf(type)] };
+    yield { from: at, to: at + sizeOf(type), path, type: spelled(type), step: sizeOf(type.component ?? type) };
   }
 }
 
@@ -102,7 +83,7 @@ export function paddingOf(struct) {
   const used = (type) => {
     if (type.kind === "struct") return type.struct.size - paddingOf(type.struct);
     if (type.kind !== "array" && type.kind !== "matrix") return sizeOf(type);
-    const { count, inner } = layersOf(type);
+    const { count, inner } = partsOf(type);
     return count * used(inner);
   };
   return struct.size - struct.members.reduce((sum, { typeTree }) => sum + used(typeTree), 0);

@@ -1,11 +1,11 @@
 // What stands at the pointer and at the caret: its type, what is wrong there, and where its name is declared.
-import { typed } from "page/card";
-import { isChecked, last, partAt, partEndingAt } from "page/checked";
-import { coded, h } from "page/dom";
-import { goTo, notesOf, problemsAt } from "page/problems";
-import { declaredNames } from "page/wgsl";
+import { typed } from "page/card.js";
+import { isChecked, last, partAt, partEndingAt } from "page/checked.js";
+import { at, coded, h, source } from "page/dom.js";
+import { goTo, notesOf, problemsAt } from "page/problems.js";
+import { declaredNames } from "page/wgsl.js";
 
-const at = (id) => document.getElementById(id), source = at("source"), tip = at("tip");
+const tip = at("tip");
 const SHOWN = 40; // characters of an expression
 const CLEAR = 16; // pixels between the pointer and what is told there
 let pointed = -1;

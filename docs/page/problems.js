@@ -1,10 +1,10 @@
 // What is wrong: beside the lines, under the words, and in a list.
-import { coded, h, showKept } from "page/dom";
-import { followColors, topOf } from "page/editor";
+import { at, coded, h, showKept, source } from "page/dom.js";
+import { followColors, topOf } from "page/editor.js";
 
 const SHOWN_MARKS = 200, SHOWN_PROBLEMS = 100, SHOWN_NOTES = 3;
 const BEFORE = 48, BEFORE_ON_PHONES = 20; // characters of a line, in front of what is wrong there
-const at = (id) => document.getElementById(id), source = at("source"), phone = matchMedia("(max-width: 30rem)");
+const phone = matchMedia("(max-width: 30rem)");
 let lineCount = 0, shown = [];
 let numbers = new Map(), marks = new Map(), items = new Map(); // what shows these, by what it shows
 let current = new Map(); // the messages of the items, as they stand now

@@ -1,6 +1,6 @@
 // A worker that reads and checks texts, so that a long one holds up no key. First it is sent the compiled module.
-import { SourceError, check, initSync, layouts, standardAnswer } from "wgsl/calls";
-import { foreignOf, leftOut, letsOf } from "page/wgsl";
+import { SourceError, check, initSync, layouts, standardAnswer } from "wgsl/calls.js";
+import { foreignOf, leftOut, letsOf } from "page/wgsl.js";
 
 onmessage = ({ data }) => {
   if (data instanceof WebAssembly.Module) return initSync(data);

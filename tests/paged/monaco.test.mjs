@@ -1,7 +1,7 @@
 // docs/monaco.js, with a stand-in for Monaco.
 import assert from "node:assert/strict";
 import test from "node:test";
-import { addWgsl } from "page/monaco";
+import { addWgsl } from "page/monaco.js";
 
 const providers = {}, markers = [], TEXT = "// é🦀\nfn lit(a: vec3<f32>, b: array<vec2f, 2>) {}\nfn f(v: vec3f) { let c = mix(v, v, true) * 2; lit(v, array(v.xy, v.yz)); }";
 const modelOf = (text) => ({

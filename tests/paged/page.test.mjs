@@ -6,7 +6,7 @@ import { tmpdir } from "node:os";
 import { join } from "node:path";
 import { test } from "node:test";
 import { pathToFileURL } from "node:url";
-import { examples } from "page/examples";
+import { examples } from "page/examples.js";
 import { check } from "wgsl-types-proved";
 import { ask, fill, started, texts } from "./browser.mjs";
 

@@ -5,10 +5,10 @@ import { cpSync, mkdtempSync, readFileSync, rmSync } from "node:fs";
 import { tmpdir } from "node:os";
 import { join } from "node:path";
 import test from "node:test";
-import { hashOf, stateOf } from "page/address";
-import { examples } from "page/examples";
-import { paddingOf, piecesOfRow, runsOf } from "page/pieces";
-import { commentsOf, foreignOf, leftOut } from "page/wgsl";
+import { hashOf, stateOf } from "page/address.js";
+import { examples } from "page/examples.js";
+import { paddingOf, piecesOfRow, runsOf } from "page/pieces.js";
+import { commentsOf, foreignOf, leftOut } from "page/wgsl.js";
 import { SourceError, code, layouts } from "wgsl-types-proved";
 
 const { TOP, PACKAGE } = process.env;
