@@ -71,5 +71,5 @@ function shownOf(title, { asked, text, isAnswer, at }, note = []) {
 
 function placeOf({ asked, text, at }) {
   const before = asked.slice(0, at ?? asked.length).replace(/./gsu, " ");
-  return h("pre", { className: "request" }, asked, "\n", before, h("b", {}, "^"), text && ` ${text}`);
+  return h("pre", { className: "request" }, asked, "\n", before, h("b", {}, "^"), ...coded(text && ` ${text}`));
 }
