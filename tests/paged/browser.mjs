@@ -111,3 +111,13 @@ export const fill = (text) => `{ const source = document.getElementById("source"
   }, 200))) }`;
 export const ask = (text) => `{ const request = document.getElementById("request"); request.value = ${JSON.stringify(text)}; request.dispatchEvent(new Event("input")) }`;
 export const texts = (selector) => `[...document.querySelectorAll(${JSON.stringify(selector)})].map((element) => element.textContent)`;
+
+/** Where the middle of a character is on the screen. */
+export const middleOf = (page, index) => page.run(`(() => { const before = source.value.slice(0, ${index}).split("\\n"), { fontSize, fontFamily } = getComputedStyle(source);
+  const box = source.getBoundingClientRect(), canvas = document.createElement("canvas").getContext("2d");
+  canvas.font = fontSize + " " + fontFamily;
+  return { x: box.left + 8 + (before.at(-1).length + 0.5) * canvas.measureText("m").width, y: box.top + 2 + before.length * 20 } })()`);
+export const mouse = async (page, type, index, more) => page.call("Input.dispatchMouseEvent", { type, ...(await middleOf(page, index)), ...more });
+export const settle = (page) => page.run("new Promise((done) => requestAnimationFrame(() => setTimeout(done, 20)))");
+/** The types behind the lines of the text, with the numbers of these. */
+export const HINTS = `[...document.querySelectorAll("#hints div")].map(({ style, lastChild }) => [(parseFloat(style.top) + 0.5) / 1.25, lastChild.textContent])`;

@@ -6,6 +6,7 @@ import { Worker } from "node:worker_threads";
 import { pathToFileURL } from "node:url";
 import { createRequire } from "node:module";
 import * as wgsl from "wgsl-types-proved";
+import { assertIs, outcomeOf, testTables } from "./tables.mjs";
 
 const PACKAGE = new URL(".", pathToFileURL(createRequire(import.meta.url).resolve("wgsl-types-proved/package.json")));
 const browser = await import(new URL("index.js", PACKAGE).href);
@@ -34,150 +35,11 @@ function sourceError(text) {
   return assert.fail(`it has no errors: ${text.slice(0, 60)}`);
 }
 
-test("a request in WGSL is answered by WGSL's own rules, one in words by the ported rules", () => {
-  assert.equal(wgsl.standardAnswer("type -vec3f"), "vec3<f32>");
-  assert.equal(wgsl.standardAnswer("let x: f32 = vec3f.x"), "f32");
-  assert.equal(wgsl.answer("binary + AbstractInt vec 3 f32"), "vec3<f32>");
-  assert.equal(wgsl.standardAnswer("why -u32"), "-(T) -> T, T: signed number: argument 1 is u32");
-});
+testTables("calls.txt", ([expression, outcome]) => assertIs(outcomeOf(expression, { ...wgsl, LIGHT, sourceError, Buffer }), outcome, expression));
 
-test("what the rules refuse is thrown, with the index of the part that has no type", () => {
-  assert.throws(() => wgsl.answer("unary - vec 3 f32"), { name: "Refused", message: "cannot use unary operator `-` on type `vec3<f32>`", index: null });
-  assert.throws(() => wgsl.standardAnswer("type bool + i32"), { name: "Refused", message: "column 11: no overload of `+` takes (bool, i32)", index: 10 });
-  assert.throws(() => wgsl.standardAnswer("let x: i32 = f32"), { name: "Refused", index: null });
-  const text = "/* é🦀 */ type 1 + (f32 + bool)";
-  assert.throws(() => wgsl.standardAnswer(text), { name: "Refused", index: text.lastIndexOf("+") });
-});
-
-test("a request that can't be read is thrown", () => {
-  assert.throws(() => wgsl.answer("unary - vec 3"), { name: "Unreadable", message: "column 14, word 5: a type is missing", index: 13 });
-  assert.throws(() => wgsl.answer(""), { name: "Unreadable", message: "no words", index: null });
-  assert.throws(() => wgsl.standardAnswer("type 1 +"), { name: "Unreadable", message: "column 9: expected an operand", index: 8 });
+test("errors of requests are of the classes of the package", () => {
+  assert.throws(() => wgsl.answer("unary - vec 3 f32"), wgsl.Refused);
   assert.throws(() => wgsl.standardAnswer(""), wgsl.Unreadable);
-  assert.throws(() => wgsl.answer("size ü"), { index: 5 });
-  for (const [request, found] of [["call 🦀🦀 - f33", "f33"], ["call é漢\u0085🦀 - vec 3 f33 f32", "f33"], ["call 🦀 - ü🦀", "ü🦀"]]) {
-    assert.throws(() => wgsl.answer(request), { index: request.indexOf(found) });
-  }
-  assert.throws(() => wgsl.answer("rank f32 f32\nrank f32 f32"), wgsl.Unreadable);
-  assert.throws(() => wgsl.standardAnswer("rank f32, f32\nrank f32, f32"), wgsl.Unreadable);
-  assert.throws(() => wgsl.answer(`size struct ${"é".repeat(3000)} 0`), wgsl.Unreadable);
-});
-
-test("why a request can't be read", () => {
-  assert.equal(wgsl.explain("unary - vec 3"), "column 14, word 5: a type is missing");
-  assert.equal(wgsl.standardExplain("type -vec3f."), "column 13: expected a name");
-  assert.equal(wgsl.explain("unary - f32"), null);
-  assert.notEqual(wgsl.explain("overloads dot"), null);
-  assert.equal(wgsl.standardExplain("overloads dot"), null);
-  assert.equal(wgsl.standardExplain("type f32 + bool"), null);
-});
-
-test("the layouts of a text", () => {
-  const { structs, variables, errors, findings } = wgsl.layouts(LIGHT);
-  assert.deepEqual(structs.map(({ name, size }) => [name, size]), [["Light", 32], ["Scene", 208]]);
-  const { typeTree, ...lights } = structs[1].members[1];
-  assert.deepEqual(lights, {
-    name: "lights", type: "array<Light, 4>", offset: 64, size: 128, align: 16, stride: 32, padding: 0,
-    line: 6, column: 3, utf16Column: 3, index: LIGHT.indexOf("lights"),
-  });
-  assert.deepEqual([typeTree.kind, typeTree.count, typeTree.element.struct], ["array", 4, structs[0]]);
-  assert.equal(variables[0].minBindingSize, 208);
-  assert.equal(variables[0].typeTree.struct, structs[1]);
-  assert.deepEqual(variables[0].resource, { kind: "buffer", type: "uniform" });
-  assert.deepEqual(errors, []);
-  assert.deepEqual(findings.map(({ index }) => LIGHT.slice(index).split(":")[0]), ["weights"]);
-});
-
-test("errors of a text are thrown with their places, also behind each line break and characters of four bytes", () => {
-  const error = sourceError("// 🦀\n/* é🦀 */ struct S { a: nowhere }\r\nstruct T { a: f32 }\u2028bad");
-  const text = "// 🦀\n/* é🦀 */ struct S { a: nowhere }\r\nstruct T { a: f32 }\u2028bad";
-  assert.deepEqual(error.errors.map(({ index }) => text.slice(index).split(/\W/)[0]), ["nowhere", "bad"]);
-  assert.deepEqual(error.errors.map(({ line, column, utf16Column }) => [line, column, utf16Column]), [[2, 28, 25], [4, 1, 1]]);
-  assert.match(error.message, /^line 2, column 28: no declaration has this name: `nowhere`, and 1 more$/);
-  assert.deepEqual(error.layouts.structs.map(({ name, index }) => [name, text.slice(index, index + 1)]), [["T", "T"]]);
-  for (const end of ["\n", "\v", "\f", "\r", "\r\n", "\u0085", "\u2028", "\u2029"]) {
-    const lines = `// é🦀${end}${end}/* 🦀 */ bad`;
-    assert.deepEqual(sourceError(lines).errors.map(({ line, index }) => [line, index]), [[3, lines.indexOf("bad")]], JSON.stringify(end));
-  }
-});
-
-test("the check of a text has its faults, and the types of its expressions, with their places", () => {
-  const text = "/* é漢🦀 */ const ß = 1u;\u2028override o: f32; fn f(i: i32) { const a = ß + true; var b = o; b = f32(i); }";
-  const { faults, parts } = wgsl.check(text), at = (place, length) => text.slice(place.index, length === undefined ? place.end.index : place.index + length);
-  const plus = {
-    line: 2, column: 46, utf16Column: 45, index: text.indexOf("+"),
-    end: { line: 2, column: 47, utf16Column: 46, index: text.indexOf("+") + 1 },
-  };
-  assert.deepEqual(faults, [{
-    kind: "overload", message: "no overload of `+` takes (u32, bool)", ...plus,
-    notes: [
-      { message: "+(T, T) -> T, T: number: argument 2 is bool", ...plus },
-      { message: "+(T, vecN<T>) -> vecN<T>, T: number: argument 2 is bool", ...plus },
-      { message: "+(vecN<T>, T) -> vecN<T>, T: number: argument 1 is u32", ...plus },
-      { message: "+(matNxM<T>, matNxM<T>) -> matNxM<T>, T: float: argument 1 is u32", ...plus },
-    ],
-  }]);
-  assert.deepEqual(parts.map((part) => [at(part), part.type, part.stage, part.declared && at(part.declared, 3)]), [
-    ["1u", "u32", "const", null], ["ß", "u32", "const", "ß ="], ["true", "bool", "const", null], ["o", "f32", "override", "o: "],
-    ["b", "ref<function, f32, read_write>", "runtime", "b ="], ["f32(i)", "f32", "runtime", null], ["i", "i32", "runtime", "i: "],
-  ]);
-  assert.deepEqual(parts[1].declared, { line: 1, column: 23, utf16Column: 18, index: 17 });
-  assert.deepEqual(wgsl.check(LIGHT), { faults: [], parts: wgsl.check(LIGHT).parts });
-  assert.deepEqual(wgsl.check(""), { faults: [], parts: [] });
-  assert.equal(wgsl.check(`fn f() { ${"{".repeat(100_000)}`).faults.length, 1);
-});
-
-test("who prints an error sees its errors alone", () => {
-  const error = sourceError("struct S { a: nowhere }");
-  assert.deepEqual(Object.keys(error).sort(), ["errors", "name"]);
-  assert.deepEqual(JSON.parse(JSON.stringify(error)), { name: "SourceError", errors: error.errors });
-});
-
-test("each type that is a struct has it, behind pointers and arrays too", () => {
-  const { structs: [inner, outer], variables } = wgsl.layouts(`struct Inner { a: f32 } struct Outer { list: array<array<Inner, 2>, 3>, one: Inner }
-    var<private> near: ptr<function, Inner>; var<private> far: ptr<private, array<Outer, 2>>; @group(0) @binding(0) var<storage> some: binding_array<Outer, 4>;`);
-  assert.equal(outer.members[0].typeTree.element.element.struct, inner);
-  assert.equal(outer.members[1].typeTree.struct, inner);
-  assert.deepEqual(variables.map(({ typeTree: { target, element } }) => (target?.struct ?? target?.element.struct ?? element.struct).name), ["Inner", "Outer", "Outer"]);
-});
-
-test("an empty text, and what is no text", () => {
-  assert.deepEqual(wgsl.layouts(""), { structs: [], variables: [], overrides: [], entryPoints: [], errors: [], findings: [], leftOut: [] });
-  for (const call of [wgsl.answer, wgsl.standardAnswer, wgsl.explain, wgsl.standardExplain, wgsl.layouts, wgsl.check]) {
-    for (const value of [7, null, undefined, ["size f32"], Buffer.from("size f32")]) assert.throws(() => call(value), TypeError);
-  }
-});
-
-test("half of a surrogate pair is refused, and not replaced in silence", () => {
-  for (const call of [wgsl.answer, wgsl.standardAnswer, wgsl.explain, wgsl.standardExplain, wgsl.layouts, wgsl.check]) {
-    for (const text of ["\ud83e", "size struct \udd80 0", "// \udd80\ud83e"]) assert.throws(() => call(text), { name: "TypeError", message: /surrogate/ });
-  }
-});
-
-test("a name keeps NULs, a byte order mark and every other character", () => {
-  assert.match(wgsl.answer("layout struct \u{feff}S 1 \u{1f980}\0x - - f32"), /🦀\0x f32\n.* \u{feff}S$/u);
-  assert.equal(wgsl.answer("common struct \u{feff}S 1 x - - f32"), "\u{feff}S");
-  assert.equal(sourceError("struct S { a: f32 }\0").errors[0].index, 19);
-});
-
-test("counts of 2^32 and more are refused, and those below are taken", () => {
-  assert.equal(wgsl.answer("ctor array < t f32 n 4294967295 >").slice(0, 5), "array");
-  assert.equal(wgsl.standardAnswer("type array<f32, 4294967295>()"), "array<f32, 4294967295>");
-  for (const count of [2n ** 32n, 2n ** 32n + 1n, 2n ** 63n - 1n]) {
-    assert.throws(() => wgsl.answer(`size array ${count} f32`), wgsl.Unreadable);
-    assert.throws(() => wgsl.answer(`ctor array < t f32 n ${count} >`), wgsl.Refused);
-    for (const request of [`size array<f32, ${count}>`, `type array<f32, ${count}>()`]) assert.throws(() => wgsl.standardAnswer(request), wgsl.Unreadable);
-  }
-});
-
-test("the deepest types, and a text of any size", () => {
-  assert.match(wgsl.answer(`layout struct S 1 a - - ${"array 1 ".repeat(252)}f32`), /^ *0 +4 +4 a array<array/);
-  assert.equal(sourceError(`struct S { a: ${"array<".repeat(300)}f32${", 1>".repeat(300)} }`).errors.length, 1);
-  assert.equal(sourceError("/*".repeat(500_000)).errors.length, 1);
-  const brackets = `const A = ${"(".repeat(100_000)}1${")".repeat(100_000)}; struct S { a: array<f32, A> }`;
-  assert.equal(wgsl.layouts(brackets).structs[0].size, 4);
-  const many = Array.from({ length: 20_000 }, (_, index) => `struct S${index} { a: vec3f }`).join("\n");
-  assert.equal(wgsl.layouts(many).structs.at(-1).name, "S19999");
 });
 
 test("if the memory can't grow, a call says so, and the next one answers, in a memory as at the start", () => {

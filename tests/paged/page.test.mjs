@@ -8,7 +8,7 @@ import { test } from "node:test";
 import { pathToFileURL } from "node:url";
 import { examples } from "page/examples.js";
 import { check } from "wgsl-types-proved";
-import { ask, fill, started, texts } from "./browser.mjs";
+import { HINTS, ask, fill, middleOf, mouse, settle, started, texts } from "./browser.mjs";
 
 const { PAGE, TOP } = process.env, SOURCED = join(TOP, "tests/sourced");
 const WIDTHS = [320, 360, 768, 1280, 1920];
@@ -69,27 +69,6 @@ test("the map is to scale, and each byte is in one part", async () => {
   for (const row of rows) assert.deepEqual(row.map(([from]) => from), [0, ...row.slice(0, -1).map(([, to]) => to)]);
   assert.deepEqual(await page.run(texts(".ruler div span")), ["+0", "+4", "+8", "+12"]);
   assert.match(await page.run("document.querySelector('.stepped').style.getPropertyValue('--step')"), /^calc\(\(100% \+ 2px\) \* 0\.333/);
-});
-
-test("by keyboard: the map tells each part, an error leads to its place", async () => {
-  const page = await opened();
-  await page.run(fill("struct S { a: f32, b: vec3f }\nstruct T { a: nowhere }\n"));
-  assert.equal(await page.run("document.activeElement.id"), "source");
-  await page.press("Tab");
-  assert.match(await page.run("document.activeElement.textContent"), /^error 2:15 no declaration has this name: nowhere/);
-  await page.press("Enter");
-  assert.deepEqual(await page.run("[source.selectionStart, source.selectionEnd, document.activeElement.id]"), [44, 51, "source"]);
-  await page.press("Tab");
-  await page.press("Tab");
-  assert.equal(await page.run("document.activeElement.className"), "map");
-  const told = () => page.run("document.querySelector('.info').textContent");
-  assert.equal(await told(), "a: f32, offset 0, size 4, alignment 4 (bytes 0–3)");
-  await page.press("ArrowRight");
-  assert.equal(await told(), "12 bytes of padding behind a, bytes 4–15");
-  await page.press("End");
-  assert.equal(await told(), "4 bytes of padding behind b, bytes 28–31");
-  await page.press("ArrowLeft");
-  assert.equal(await told(), "b: vec3<f32>, offset 16, size 12, alignment 16 (bytes 16–27)");
 });
 
 test("all that can be reached has a name and a ring", async () => {
@@ -209,49 +188,6 @@ test("what the page writes in C, Rust and TypeScript is compiled, and each offse
   assert.deepEqual(page.errors, []);
 });
 
-test("the calculator answers expressions, requests, words, and what it can't read", async () => {
-  const page = await opened();
-  const cases = [
-    ["vec3f + 1", "vec3<f32>", "Overload 3: (vec3<f32>, f32) -> vec3<f32>"],
-    ["1.5 + f16", "f16", "Overload 0: (f16, f16) -> f16"],
-    ["1.5 + i32", "no overload of + takes (AbstractFloat, i32)", null],
-    ["1.5f + 0x1fu", "no overload of + takes (f32, u32)", null],
-    ["-vec3<f32>", "vec3<f32>", "Overload 1: (vec3<f32>) -> vec3<f32>"],
-    ["1 << const u32", "AbstractInt", "Overload 0: (AbstractInt, u32) -> AbstractInt"],
-    ["vec3<f32>(vec3i)", "vec3<f32>", "Overload 7: (f32, vec3<i32>) -> vec3<f32>"],
-    ["true + true", "no overload of + takes (bool, bool)", null],
-    ["array<f32, 4>", "array<f32, 4>", null],
-    ["size vec3<bool>", "12 16", null],
-    ["mix(vec3f, vec3f, 1) * f32", "vec3<f32>", "Overload 3: (vec3<f32>, f32) -> vec3<f32>"],
-    ["  type  -vec3f ", "vec3<f32>", "Overload 1: (vec3<f32>) -> vec3<f32>"],
-    ["vec3f.xy", "vec2<f32>", null],
-    ["const f32", "f32", null],
-    ["const x: f32 = 1", "f32", null],
-    ["struct S { a: vec3f } type S.a", "vec3<f32>", null],
-    ["fn f(a: f32) -> u32 f(1)", "fits", null],
-    ["storageBarrier()", "no value", null],
-    ["why -u32", "-(T) -> T, T: signed number: argument 1 is u32", null],
-    ["why -i32", "none", null],
-    ["common bool, f32", "none", null],
-    ["binary + bool bool", "bool", null],
-    ["unary - vec 3 f32", "cannot use unary operator - on type vec3<f32>", null],
-  ];
-  for (const [request, answer, note] of cases) {
-    await page.run(ask(request));
-    assert.deepEqual(await page.run(`[${texts(".verdict .answer")}, ${texts(".verdict .overload")}]`), [[answer], note ? [note] : []], request);
-  }
-  assert.deepEqual(await page.run(texts(".verdict h3")), ["Rules of the crate wgsl-types"]);
-  for (const [request, kind] of [["-f32", "yes"], ["-u32", "no"], ["common i32, f32", "no"]]) {
-    await page.run(ask(request));
-    assert.equal(await page.run("document.querySelector('.verdict').className"), `verdict ${kind}`, request);
-  }
-  await page.run(ask("layout struct S { a: f32, b: vec3 }"));
-  assert.match(await page.run("document.querySelector('#answers .request').textContent"), /b: vec3 \}\n {29}\^ \S/);
-  await page.run(ask("vec3f + "));
-  assert.match(await page.run("document.querySelector('#answers .request').textContent"), /^vec3f \+\n {7}\^ \w/);
-  assert.deepEqual(page.errors, []);
-});
-
 test("of many structs, those near to the window are drawn", async () => {
   const page = await opened();
   await page.run(fill(Array.from({ length: 2000 }, (_, i) => `struct S${i} { a: vec3f, b: array<f32, ${i + 1}> }`).join("\n")));
@@ -276,34 +212,7 @@ test("no text stops the page", async () => {
   }
 });
 
-const SHADER = `alias Color = vec3f; struct Light { color: Color, power: f32 }
-struct Globals { lights: array<Light, COUNT>, exposure: f32 }
-const COUNT = 2 + 2; override SCALE: f32 = 1; @group(0) @binding(0) var<uniform> globals: Globals;
-fn lit(light: Light, normal: vec3f) -> vec3f { return light.color * normal.x; }
-@fragment fn main(@location(0) at: vec3f) -> @location(0) vec4f {
-  let near = &globals.lights[1]; // one
-  let sum = lit(*near, at) * SCALE; let power = (*near).power; let half = 0.5;
-  { let sum = near.color.x; _ = sum; }
-  return vec4f(sum * half, power);
-}
-`;
-const HINTS = `[...document.querySelectorAll("#hints div")].map(({ style, lastChild }) => [(parseFloat(style.top) + 0.5) / 1.25, lastChild.textContent])`;
 const SELECTED = "[source.selectionStart, source.selectionEnd]";
-
-/** Where a word stands in SHADER among what is around it: `a|b|c` is that of the `b` in `abc`. */
-function placeOf(marked) {
-  const [before, word, behind] = marked.split("|"), at = SHADER.indexOf(before + word + behind);
-  assert.ok(at >= 0, marked);
-  return [at + before.length, at + before.length + word.length];
-}
-
-/** Where the middle of a character is on the screen. */
-const middleOf = (page, index) => page.run(`(() => { const before = source.value.slice(0, ${index}).split("\\n"), { fontSize, fontFamily } = getComputedStyle(source);
-  const box = source.getBoundingClientRect(), canvas = document.createElement("canvas").getContext("2d");
-  canvas.font = fontSize + " " + fontFamily;
-  return { x: box.left + 8 + (before.at(-1).length + 0.5) * canvas.measureText("m").width, y: box.top + 2 + before.length * 20 } })()`);
-const mouse = async (page, type, index, more) => page.call("Input.dispatchMouseEvent", { type, ...(await middleOf(page, index)), ...more });
-const settle = (page) => page.run("new Promise((done) => requestAnimationFrame(() => setTimeout(done, 20)))");
 
 test("each fault is marked where it stands, and in the list with its notes, which lead to places; what the layouts tell too is told once", async () => {
   const page = await opened({ height: 2000 }), added = "\nfn f(a: f32) -> f32 { let x = vec3f(1) * true; }\nfn f() { if 1 { } } struct B { c: Q } const a = 1u + true; var<private> b: array<f32, a>;";
@@ -328,85 +237,25 @@ test("each fault is marked where it stands, and in the list with its notes, whic
   }
 });
 
-test("the pointer and the caret are told the innermost expression's type and stage, and what is wrong", async () => {
-  const page = await opened(), pointed = async (index) => (await mouse(page, "mouseMoved", index), await settle(page), page.run("tip.hidden ? null : tip.textContent"));
-  const told = async (index) => (await page.run(`source.focus(), source.setSelectionRange(${index}, ${index})`), await settle(page), page.run("caret.textContent"));
-  await page.run(fill(SHADER));
-  for (const [place, wanted] of [
-    ["&|globals|.", "globals: ref<uniform, Globals, read>, runtime expression"], [" = |&|glo", "&globals.lights[1]: ptr<uniform, Light, read>, runtime expression"],
-    ["globals.|lights|[", "globals.lights: ref<uniform, array<Light, 4>, read>, runtime expression"], ["2 |+| 2", "2 + 2: AbstractInt, const expression"],
-    ["* |SCALE|;", "SCALE: f32, override expression"], ["|lit|(*n", "lit(*near, at): vec3<f32>, runtime expression"],
-    ["|near| =", "near: ptr<uniform, Light, read>, runtime expression"], ["// |o|ne", null], ["|return| vec4f", null], ["|struct| G", null],
-  ]) {
-    const [start] = placeOf(place);
-    assert.deepEqual([await pointed(start), await told(start)], [wanted, wanted ?? "The type at the caret. F12 leads to a declaration."], place);
-  }
-  assert.deepEqual([await pointed(placeOf(";| |//")[0]), await told(placeOf("|SCALE|;")[1])], [null, "SCALE: f32, override expression"]);
-  await page.run(fill("fn f() { let a = true + 1; }"));
-  assert.match(await pointed(22), /^error no overload of \+ takes \(bool, AbstractInt\)\+\(T, T\) -> T, T: number: argument 1 is bool.*and 1 more$/);
-  assert.equal(await told(22), "error no overload of + takes (bool, AbstractInt)");
-  await page.press("Escape");
-  assert.equal(await page.run("tip.hidden"), true);
+test("what is told at the pointer stands above it where there is no room below", async () => {
+  const page = await opened();
   await page.look({ width: 1280, height: 200, dark: false });
   await page.run(fill("fn f() { let a = true+1; }"));
-  assert.equal(await pointed(22), "1: AbstractInt, const expression");
+  await mouse(page, "mouseMoved", 22);
+  await settle(page);
+  assert.equal(await page.run("tip.hidden ? null : tip.textContent"), "1: AbstractInt, const expression");
   assert.ok((await page.run("tip.getBoundingClientRect().bottom")) < (await middleOf(page, 22)).y);
-});
-
-test("F12 at the caret and a click with Ctrl lead from a name to its declaration", async () => {
-  const page = await opened();
-  await page.run(fill(SHADER));
-  for (const [from, to] of [
-    ["(*|near|, at)", "let |near| ="], ["near, |at|)", "(0) |at|:"], ["|lit|(*near", "fn |lit|("], ["&|globals|", "> |globals|:"], ["* |SCALE|;", "override |SCALE|:"],
-    [", |COUNT|>", "const |COUNT| ="], ["array<|Light|,", "struct |Light| {"], ["color: |Color|", "alias |Color| ="], ["globals.|lights|[", "{ |lights|:"],
-    ["(*near).|power|", ", |power|:"], ["near.|color|.x", "{ |color|:"], ["light.|color| *", "{ |color|:"], ["_ = |sum|;", "{ let |sum| = near"],
-    ["vec4f(|sum| *", "let |sum| = lit"], ["normal.|x|;", null], ["return |vec4f|(", null], ["|// |one", null],
-  ]) {
-    const [start, end] = placeOf(from), wanted = to && placeOf(to);
-    await page.run(`source.focus(), source.setSelectionRange(${start + 1}, ${start + 1})`);
-    await page.press("F12");
-    assert.deepEqual(await page.run(SELECTED), wanted ?? [start + 1, start + 1], from);
-    for (const type of ["mousePressed", "mouseReleased"]) await mouse(page, type, end - 1, { button: "left", clickCount: 1, modifiers: 2 });
-    const found = await page.run(SELECTED);
-    assert.deepEqual(found, wanted ?? [found[0], found[0]], from);
-  }
 });
 
 test("the types of lets stand behind their lines, and can be switched off; faults and they move with the text before it is checked", async () => {
   const page = await opened(), text = "fn f() {\n  let a = 1u;\n  let b = a + true; let c = a;\n}\n";
-  await page.run(fill(SHADER));
-  const { x, y } = await middleOf(page, SHADER.indexOf("// one") + 5), box = await page.run(`document.querySelector("#hints span").getBoundingClientRect().toJSON()`);
-  assert.deepEqual(await page.run(HINTS), [[6, ": ptr<uniform, Light, read>"], [7, "sum: vec3<f32>, power: f32, half: f32"], [8, ": f32"]]);
+  await page.run(fill(text));
+  const { x, y } = await middleOf(page, text.indexOf("1u;") + 2), box = await page.run(`document.querySelector("#hints span").getBoundingClientRect().toJSON()`);
   assert.ok(x < box.left && box.left < x + 40 && box.top < y && y < box.bottom, JSON.stringify(box));
-  for (const count of [0, 3]) assert.equal(await page.run(`types.click(), document.querySelectorAll("#hints div").length`), count);
-  await page.run(fill("fn f() {\nlet a: f32 = 1;\nlet b = 1u + true;\nlet c = 1u /* ; */ + 2;\nlet d = frexp(1.5);\nlet e = array(vec2(1), vec2(2));\nlet i /**/ = (1.5); let let1 = 2; }\nfn k() { let j = 1; let l = ; }"));
-  assert.deepEqual(await page.run(HINTS), [[4, ": u32"], [5, ": __frexp_result_f32"], [6, ": array<vec2<i32>, 2>"], [7, "i: f32, let1: i32"]]);
-  await page.run(fill("fn f() { let\nm = 1u; }"));
-  assert.deepEqual(await page.run(HINTS), [[2, ": u32"]]);
+  for (const count of [0, 2]) assert.equal(await page.run(`types.click(), document.querySelectorAll("#hints div").length`), count);
   for (const [from, to, hints, marks] of [["fn", "\n\nfn", [4, 5], ["5.75rem+"]], ["1u;", "1u\n;", [2, 4], ["4.5rem+"]], ["+", "-", [2, 3], []]]) {
     await page.run(fill(text));
     assert.deepEqual(await page.run(`new Promise((done) => { source.value = ${JSON.stringify(text.replace(from, to))}; source.dispatchEvent(new Event("input")); requestAnimationFrame(() =>
       done([document.documentElement.dataset.checked ?? null, ${HINTS}, [...document.querySelectorAll("#marks div")].map(({ style, lastChild }) => style.top + lastChild.textContent)])) })`), [null, hints.map((line) => [line, ": u32"]), marks]);
   }
-});
-
-test("the calculator types expressions with names of the shader, broken or not", async () => {
-  const page = await opened(), shader = "WGSL’s own rules, in the shader above", good = ["globals.lights[0].color * 2", shader, "vec3<f32>", "runtime expression", ""];
-  const shown = async (request) => (await page.run(ask(request)), await page.until("answers.ariaBusy === 'false'"), page.run(`[".verdict h3", ".verdict .answer", ".verdict .overload", ".request"].map((part) => document.querySelector("#answers " + part)?.textContent ?? "")`));
-  for (const more of ["", "\nfn g() { let a = ;", "\nfn g() {", "struct X { a: nowhere }", "\nconst y = 1u + true;", "\n@group(0) var<uniform>", "\n// no line feed"]) {
-    await page.run(fill(SHADER + more));
-    for (const [request, ...wanted] of [good, ["type COUNT + 1", shader, "AbstractInt", "const expression", ""], ["SCALE // half", shader, "f32", "override expression", ""], ["lit(Light(), vec3f(1)).zyx", shader, "vec3<f32>", "runtime expression", ""]]) assert.deepEqual(await shown(request), wanted, request + more);
-  }
-  for (const [request, ...wanted] of [
-    ["2 * Globals", shader, "Globals is no value", "", "2 * Globals\n    ^"], ["SCALE * ", "", "", "", "SCALE *\n       ^ expected an operand"], ["1; } fn x() { _ = SCALE", "", "", "", "1; } fn x() { _ = SCALE\n   ^ expected an operator or the end"],
-    ["struct Light { a: f32 } type Light.a * 2", "WGSL’s own rules", "f32", "", ""], ["SCALE + true", shader, "no overload of + takes (f32, bool)", "", "SCALE + true\n      ^"],
-  ]) assert.deepEqual(await shown(request), wanted, request);
-  assert.equal((await page.run(texts(".why li")))[0], "+(T, T) -> T, T: numberargument 2 is bool");
-  await shown(good[0]);
-  for (const [changed, answer] of [[`enable f16;${SHADER.replace("vec3f;", "vec3h;")}`, "vec3<f16>"], [`${SHADER}#`, "vec3<f32>"], [`${SHADER}/*`, "No type: an error in the shader hides it."]]) {
-    await page.run(fill(changed));
-    await page.until(`document.querySelector(".verdict .answer").textContent === ${JSON.stringify(answer)}`);
-  }
-  assert.equal(await page.run("document.querySelector('.verdict').className"), "verdict no");
-  assert.deepEqual(page.errors, []);
 });

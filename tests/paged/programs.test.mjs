@@ -1,7 +1,7 @@
 // The npm package beside the proved programs, which are in the folder that PROGRAMS names. REQUESTS is a file of requests, SOURCED
 // a folder of WGSL files.
 import assert from "node:assert/strict";
-import { execFileSync, spawnSync } from "node:child_process";
+import { spawnSync } from "node:child_process";
 import { readFileSync, readdirSync } from "node:fs";
 import { join } from "node:path";
 import test from "node:test";
@@ -25,10 +25,19 @@ function told(call, request) {
   }
 }
 
+/** What a program does with these words and this input. */
+const run = (program, words, input = "") => spawnSync(join(PROGRAMS, program), words, { input, encoding: "utf8", maxBuffer: 1 << 30 });
+
+/** The WGSL files: what `wgsl` prints of each with these words, its path, and its text. */
+const printed = (...words) => readdirSync(SOURCED).filter((name) => name.endsWith(".wgsl")).map((name) => {
+  const path = join(SOURCED, name);
+  return [run("wgsl", [...words, path]).stdout, path, readFileSync(path, "utf8")];
+});
+
 for (const [program, call, explain] of [["wgsl_check", wgsl.answer, wgsl.explain], ["wgsl", wgsl.standardAnswer, wgsl.standardExplain]]) {
   test(`each request is answered as by ${program}`, { timeout: 300_000 }, () => {
     const requests = readFileSync(REQUESTS, "utf8").split("\n").filter((request) => /\S/.test(request)), wanted = requests.filter((request) => !isWide(request));
-    const { stdout, stderr } = spawnSync(join(PROGRAMS, program), program === "wgsl" ? ["ask"] : [], { input: wanted.map((request) => `${request}\n`).join(""), encoding: "utf8", maxBuffer: 1 << 30 });
+    const { stdout, stderr } = run(program, program === "wgsl" ? ["ask"] : [], wanted.map((request) => `${request}\n`).join(""));
     let answers = "", notes = "";
     for (const [index, request] of wanted.entries()) {
       const { answer, why } = told(call, request);
@@ -56,54 +65,41 @@ function withoutLinks(key, value) {
   return key === "struct" || key === "index" ? undefined : value;
 }
 
-function layoutsOf(text) {
+/** What a call returns, or what an error of a text has in place of that. */
+function found(call, inError) {
   try {
-    return wgsl.layouts(text);
+    return call();
   } catch (error) {
-    if (error instanceof wgsl.SourceError) return error.layouts;
+    if (error instanceof wgsl.SourceError) return inError(error);
     throw error;
   }
 }
 
 test("the layouts of each file are those of `wgsl layout`, and each place is an index", () => {
-  const files = readdirSync(SOURCED).filter((name) => name.endsWith(".wgsl"));
+  const files = printed("layout", "--json");
   assert.ok(files.length > 10);
-  for (const file of files) {
-    const path = join(SOURCED, file), text = readFileSync(path, "utf8"), told = layoutsOf(text);
-    const { stdout } = spawnSync(join(PROGRAMS, "wgsl"), ["layout", "--json", path], { encoding: "utf8", maxBuffer: 1 << 28 });
-    const { file: _, ...wanted } = JSON.parse(stdout);
-    assert.deepEqual(JSON.parse(JSON.stringify(told, withoutLinks)), wanted, file);
+  for (const [stdout, path, text] of files) {
+    const told = found(() => wgsl.layouts(text), ({ layouts }) => layouts), { file: _, ...wanted } = JSON.parse(stdout);
+    assert.deepEqual(JSON.parse(JSON.stringify(told, withoutLinks)), wanted, path);
     for (const { name, index } of [...told.structs, ...told.variables, ...told.structs.flatMap(({ members }) => members)]) {
-      assert.equal(text.slice(index, index + name.length), name, file);
+      assert.equal(text.slice(index, index + name.length), name, path);
     }
-    for (const struct of told.structs) assert.equal(wgsl.view(struct).size, struct.size, `${file}: ${struct.name}`);
+    for (const struct of told.structs) assert.equal(wgsl.view(struct).size, struct.size, `${path}: ${struct.name}`);
   }
-  assert.equal(execFileSync(join(PROGRAMS, "wgsl"), ["--version"], { encoding: "utf8" }).trim().split(" ").at(-1), wgsl.version());
+  assert.equal(run("wgsl", ["--version"]).stdout.trim().split(" ").at(-1), wgsl.version());
 });
 
 test("the check of each file is that of `wgsl check`", () => {
-  for (const file of readdirSync(SOURCED).filter((name) => name.endsWith(".wgsl"))) {
-    const path = join(SOURCED, file), { faults, parts } = wgsl.check(readFileSync(path, "utf8"));
-    const { stdout } = spawnSync(join(PROGRAMS, "wgsl"), ["check", "--json", "--types", path], { encoding: "utf8", maxBuffer: 1 << 28 });
-    assert.deepEqual(JSON.parse(JSON.stringify({ file: path, faults, types: parts }, withoutLinks)), JSON.parse(stdout), file);
+  for (const [stdout, path, text] of printed("check", "--json", "--types")) {
+    const { faults, parts } = wgsl.check(text);
+    assert.deepEqual(JSON.parse(JSON.stringify({ file: path, faults, types: parts }, withoutLinks)), JSON.parse(stdout), path);
   }
 });
 
-test("each text has the code that `wgsl layout` prints", () => {
-  for (const file of readdirSync(SOURCED).filter((name) => name.endsWith(".wgsl"))) {
-    for (const language of ["c", "rust", "numpy", "typescript"]) {
-      const path = join(SOURCED, file), { stdout } = spawnSync(join(PROGRAMS, "wgsl"), ["layout", `--${language}`, path], { encoding: "utf8", maxBuffer: 1 << 28 });
-      assertSame(codeOf(readFileSync(path, "utf8"), language), stdout, `${language} of ${file}`);
+test("each text has the code that `wgsl layout` prints, errors or not", () => {
+  for (const language of ["c", "rust", "numpy", "typescript"]) {
+    for (const [stdout, path, text] of printed("layout", `--${language}`)) {
+      assertSame(found(() => wgsl.code(text, language), (error) => error.code(language)), stdout, `${language} of ${path}`);
     }
   }
 });
-
-/** The code of what a text lays out, errors or not. */
-function codeOf(text, language) {
-  try {
-    return wgsl.code(text, language);
-  } catch (error) {
-    if (error instanceof wgsl.SourceError) return error.code(language);
-    throw error;
-  }
-}

@@ -3,6 +3,7 @@ import assert from "node:assert/strict";
 import test from "node:test";
 import { runInNewContext } from "node:vm";
 import { layouts, view } from "wgsl-types-proved";
+import { outcomeOf, testTables } from "./tables.mjs";
 
 const LAYOUTS = layouts(`
 enable f16;
@@ -18,9 +19,22 @@ struct Scalars { i: i32, u: u32, f: f32, h: f16, grid: array<vec2u, 2>, n: atomi
 @group(0) @binding(2) var image: texture_2d<f32>;
 var<private> on: bool;
 `);
-const WIDE = layouts("struct Wide { i: i64, u: u64, d: f64 }").structs[0];
-const structs = Object.fromEntries(LAYOUTS.structs.map((struct) => [struct.name, struct]));
+const [WIDE] = layouts("struct Wide { i: i64, u: u64, d: f64 }").structs;
+const structs = Object.fromEntries([...LAYOUTS.structs, WIDE].map((struct) => [struct.name, struct]));
 const variables = Object.fromEntries(LAYOUTS.variables.map((variable) => [variable.name, variable]));
+
+/** Writes a value into a view, and reads it back. */
+function set(layout, value, options) {
+  const made = view(layout, options);
+  made.set(value);
+  return made.get();
+}
+
+const member = (struct, name) => structs[struct].members.find((member) => member.name === name);
+const SCOPE = { view, set, member, structs, variables, layouts: LAYOUTS, Buffer, other: runInNewContext };
+
+testTables("view.txt", ([expression, outcome]) => assert.equal(outcomeOf(expression, SCOPE), outcome, expression));
+
 const VALUE = {
   flag: 7,
   list: [{ a: 1, b: [2, 3, 4] }, { a: 5, b: [6, 7, 8] }],
@@ -64,15 +78,6 @@ test("what is written is read back", () => {
   assert.deepEqual(halves.get(), value);
 });
 
-test("lists may be flat", () => {
-  const nested = view(structs.Outer), flat = view(structs.Outer), grid = view(structs.Halves);
-  nested.set({ m: VALUE.m });
-  flat.set({ m: new Float32Array([1, 2, 3, 4, 5, 6, 7, 8, 9]) });
-  assert.deepEqual(flat.buffer, nested.buffer);
-  grid.set({ grid: [1, 2, 3, 4, 5, 6, 7, 8, 9, 10, 11, 12] });
-  assert.deepEqual(grid.get().grid[1], [[7, 8], [9, 10], [11, 12]]);
-});
-
 test("a member has a view of its own", () => {
   const outer = view(structs.Outer), member = structs.Outer.members[1], list = view(member, { buffer: outer.buffer, offset: member.offset });
   list.set(VALUE.list);
@@ -86,47 +91,6 @@ test("what isn't given stays, padding too, and an offset is kept", () => {
   view(structs.Inner, { buffer, offset: 32 }).set({ b: [0, 0, 0] });
   const zeros = [...new Uint8Array(buffer).entries()].filter(([, byte]) => byte === 0).map(([index]) => index);
   assert.deepEqual(zeros, Array.from({ length: 12 }, (_, index) => 48 + index));
-});
-
-test("runtime-sized arrays have as many elements as are asked for, or as the buffer has room for", () => {
-  assert.deepEqual([0, 1, 2, 3].map((count) => view(structs.Endless, { count }).size), [16, 32, 48, 64]);
-  assert.equal(view(structs.Objects, { count: 3 }).size, 16 + 3 * 32);
-  assert.deepEqual([0, 1, 2, 5].map((count) => view(structs.Odd, { count }).size), [16, 16, 32, 32]);
-  assert.equal(view(structs.Endless).count, 1);
-  assert.equal(view(variables.colors, { count: 10 }).size, 160);
-  const endless = view(structs.Endless, { buffer: new ArrayBuffer(80 + 15), offset: 16 });
-  assert.deepEqual([endless.count, endless.size], [3, 64]);
-  endless.set({ count: 2, items: [[1, 2, 3], [4, 5, 6]] });
-  assert.deepEqual(endless.get(), { count: 2, items: [[1, 2, 3], [4, 5, 6], [0, 0, 0]] });
-  assert.throws(() => endless.set({ items: [[1, 2, 3], [1, 2, 3], [1, 2, 3], [1, 2, 3]] }), RangeError);
-});
-
-test("what doesn't fit is refused by its path", () => {
-  const refused = (value, message) => assert.throws(() => view(structs.Outer).set(value), { message });
-  refused({ list: [{ b: [1, 2] }] }, "Outer.list[0].b: 3 numbers are wanted for a vector, not 2");
-  refused({ list: [{}, {}, {}] }, "Outer.list: 2 elements are wanted for an array, not 3");
-  refused({ listt: [] }, "Outer: Outer has no member listt");
-  refused({ flag: "1" }, "Outer.flag: a number is wanted for u32");
-  refused({ flag: [1] }, /a number is wanted/);
-  refused({ m: 1 }, "Outer.m: a list is wanted for a matrix");
-  refused({ m: [1, 2, 3, 4] }, "Outer.m: 9 numbers are wanted for a matrix, not 4");
-  refused({ m: [[1, 2, 3], [4, 5, 6]] }, "Outer.m: 3 elements are wanted for a matrix, not 2");
-  refused(null, "Outer: an object is wanted for Outer");
-  refused([1], "Outer: an object is wanted for Outer");
-  assert.throws(() => view(variables.image), { name: "TypeError", message: "wgsl-types-proved: a texture has no bytes" });
-  assert.throws(() => view({ name: "s", typeTree: { kind: "struct", name: "S" } }), { name: "TypeError", message: "wgsl-types-proved: a struct has no bytes" });
-});
-
-test("a flat list has whole elements", () => {
-  const grid = view(structs.Scalars), message = "Scalars.grid: 4 numbers are wanted for an array, not 3";
-  assert.throws(() => grid.set({ grid: [1, 2, 3] }), { name: "RangeError", message });
-  grid.set({ grid: [1, 2] });
-  assert.deepEqual(grid.get().grid, [[1, 2], [0, 0]]);
-  assert.throws(() => grid.set({ grid: [1, 2, 3, 4, 5] }), { name: "RangeError", message: message.replace("3", "5") });
-  const endless = view(structs.Endless, { count: 2 });
-  for (const list of [[1, 2], [1, 2, 3, 4], new Float32Array(5), [1, 2, 3, 4, 5, 6, 7]]) {
-    assert.throws(() => endless.set({ items: list }), { name: "RangeError", message: `Endless.items: 6 numbers are wanted for an array, not ${list.length}` });
-  }
 });
 
 /** What each integer takes: its bounds. */
@@ -157,80 +121,11 @@ test("an integer takes each whole number in its range, as a number or a BigInt, 
   }
 });
 
-test("a float takes any number, and a bool booleans alone", () => {
-  for (const member of [structs.Scalars.members[2], structs.Scalars.members[3], WIDE.members[2]]) {
-    const one = view(member);
-    for (const value of [0, -0, 1.5, -2, Infinity, -Infinity, NaN]) assert.deepEqual((one.set(value), one.get()), value);
-    assert.equal((one.set(12n), one.get()), 12);
-    assert.equal((one.set(1e300), one.get()), member.type === "f64" ? 1e300 : Infinity);
-    for (const value of ["1", true, null, undefined, {}, [1]]) {
-      assert.throws(() => one.set(value), { name: "TypeError", message: `${member.name}: a number is wanted for ${member.type}` });
-    }
-  }
-  for (const value of [0, 1, 2n, NaN, "true", null, undefined, {}]) {
-    assert.throws(() => view(variables.on).set(value), { name: "TypeError", message: "on: a boolean is wanted for bool" });
-  }
-});
-
-test("a number that doesn't fit is told by its path, and what lies beside it stays", () => {
-  const refused = (value, message) => assert.throws(() => view(structs.Scalars).set(value), { name: "RangeError", message });
-  refused({ u: -1 }, "Scalars.u: a whole number from 0 to 4294967295 is wanted for u32, not -1");
-  refused({ grid: [[1, 2], [3, 4.5]] }, "Scalars.grid[1][1]: a whole number from 0 to 4294967295 is wanted for u32, not 4.5");
-  refused({ grid: [1, 2, 2 ** 32, 4] }, "Scalars.grid[1][0]: a whole number from 0 to 4294967295 is wanted for u32, not 4294967296");
-  refused({ grid: [new Float32Array([1, NaN])] }, "Scalars.grid[0][1]: a whole number from 0 to 4294967295 is wanted for u32, not NaN");
+test("beside a number that doesn't fit all stays", () => {
   const values = view(structs.Scalars, { buffer: new Uint8Array(64).fill(255).buffer });
   assert.throws(() => values.set({ u: 2n ** 32n }), RangeError);
   assert.throws(() => values.set({ i: -(2 ** 31) - 1 }), RangeError);
   assert.ok(new Uint8Array(values.buffer).every((byte) => byte === 255));
-});
-
-test("a layout is asked for in words of the package", () => {
-  for (const [value, kind] of [[undefined, "Undefined"], [null, "Null"], ["Light", "String"], [7, "Number"], [{}, "Object"], [LAYOUTS, "Object"], [[], "Array"], [{ typeTree: {} }, "Object"]]) {
-    const message = `wgsl-types-proved: the layout of a struct, a member or a variable is wanted, as \`layouts(text).structs[0]\`, not ${kind}`;
-    assert.throws(() => view(value), { name: "TypeError", message });
-  }
-});
-
-test("a buffer is an ArrayBuffer, of any realm, that is long enough", () => {
-  const wanted = (buffer, kind, cure = "") => {
-    const message = `wgsl-types-proved: an ArrayBuffer is wanted, not ${kind}${cure}`;
-    assert.throws(() => view(structs.Inner, { buffer }), { name: "TypeError", message });
-  };
-  const cure = ": give its `buffer`, and its `byteOffset` as the `offset`";
-  for (const buffer of [new Float32Array(8), new Uint8Array(64), new DataView(new ArrayBuffer(64))]) wanted(buffer, buffer.constructor.name, cure);
-  wanted(Buffer.alloc(64), "Uint8Array", cure);
-  for (const [buffer, kind] of [[64, "Number"], [[1, 2], "Array"], [{ byteLength: 64 }, "Object"], ["buffer", "String"], [false, "Boolean"]]) wanted(buffer, kind);
-  for (const buffer of [new ArrayBuffer(32), new SharedArrayBuffer(32), runInNewContext("new ArrayBuffer(32)")]) {
-    const inner = view(structs.Inner, { buffer });
-    inner.set({ a: 2 });
-    assert.deepEqual([inner.buffer, new Float32Array(buffer)[0]], [buffer, 2]);
-  }
-  for (const options of [undefined, null, {}, { buffer: null, count: null }, { buffer: undefined, offset: undefined }]) assert.equal(view(structs.Inner, options).buffer.byteLength, 32);
-  for (const options of [new ArrayBuffer(32), new SharedArrayBuffer(32), new Uint8Array(32)]) {
-    const message = `wgsl-types-proved: a buffer is given as \`{ buffer }\`, not as ${options.constructor.name}`;
-    assert.throws(() => view(structs.Inner, options), { name: "TypeError", message });
-  }
-  const short = (layout, options, message) => assert.throws(() => view(layout, options), { name: "RangeError", message });
-  short(structs.Outer, { buffer: new ArrayBuffer(175) }, "Outer: a buffer of 176 bytes is wanted, not of 175");
-  short(variables.outer, { buffer: new ArrayBuffer(0) }, "outer: a buffer of 176 bytes is wanted, not of 0");
-  short(structs.Inner, { buffer: new ArrayBuffer(47), offset: 16 }, "Inner: a buffer of 48 bytes is wanted, not of 47");
-  short(structs.Inner, { buffer: new ArrayBuffer(32), offset: 64 }, "Inner: a buffer of 96 bytes is wanted, not of 32");
-  short(structs.Endless, { buffer: new ArrayBuffer(10) }, "Endless: a buffer of 16 bytes is wanted, not of 10");
-  short(variables.colors, { buffer: new ArrayBuffer(32), count: 3 }, "colors: a buffer of 48 bytes is wanted, not of 32");
-  short(variables.colors, { count: 2 ** 48 }, "colors: there is no memory for a buffer of 4503599627370496 bytes");
-});
-
-test("an offset and a count are whole numbers from 0 on", () => {
-  for (const what of ["offset", "count"]) {
-    for (const value of [-1, 1.5, NaN, Infinity]) {
-      const message = `wgsl-types-proved: a whole number from 0 on is wanted as the \`${what}\`, not ${value}`;
-      for (const buffer of [undefined, new ArrayBuffer(256)]) assert.throws(() => view(structs.Endless, { buffer, [what]: value }), { name: "RangeError", message });
-    }
-    for (const [value, kind] of [["1", "String"], [1n, "BigInt"], [true, "Boolean"], [{}, "Object"]]) {
-      const message = `wgsl-types-proved: a number is wanted as the \`${what}\`, not ${kind}`;
-      assert.throws(() => view(structs.Endless, { [what]: value }), { name: "TypeError", message });
-    }
-  }
 });
 
 test("a f16 is rounded to the nearest, ties to even: each one, and the numbers around the middle of two", () => {
