@@ -26,7 +26,7 @@ export function showProblems({ errors, findings }) {
 /** What an item of the list shows. */
 function keyOf({ kind, message: { line, column, message, notes = [] }, place }) {
   const told = notes.slice(0, SHOWN_NOTES).map((note) => `${note.line}:${note.column} ${note.message}`);
-  return [kind, line, column, message, ...Object.values(place), ...told, notes.length].join("\n");
+  return [phone.matches, kind, line, column, message, ...Object.values(place), ...told, notes.length].join("\n");
 }
 
 /** An item of the list. It leads to where its problem stands when it is clicked. */

@@ -180,6 +180,16 @@ test("the editor stays in view beside the results, nothing covers the calculator
   }
 });
 
+test("in a window that gets narrow, what is wrong stays in view in its line", async () => {
+  const page = await opened(SIZES[0]), long = BROKEN.replace("f32, b", `f32, ${"c".repeat(60)}: f32, d: f33, b`);
+  for (const size of SIZES) {
+    await page.look({ ...size, dark: false });
+    await page.run(fill(long));
+    const hidden = `[...document.querySelectorAll("#problems pre")].filter((line) => line.lastChild.getBoundingClientRect().right > line.getBoundingClientRect().right).length`;
+    assert.equal(await page.run(hidden), 0, `${size.width}`);
+  }
+});
+
 test("names, types and numbers have three colours, in the text, in tables and in code", async () => {
   const palettes = [];
   for (const dark of [false, true]) {
