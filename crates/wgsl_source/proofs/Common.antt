@@ -21,7 +21,7 @@ pub use Rattle.wgsl_source.specs.declared.declaration.Declaration.{Declaration}
 pub use Rattle.wgsl_source.specs.declared.measured.Count.{Count}
 pub use Rattle.wgsl_source.specs.declared.measured.MeasuredType.{MeasuredType}
 pub use Rattle.wgsl_source.specs.declared.measured.TypeKind.{TypeKind}
-pub use Rattle.wgsl_source.specs.declared.module.Reader.{Reader}
+pub use Rattle.wgsl_source.specs.declared.reader.Reader.{Reader}
 pub use Rattle.wgsl_source.specs.declared.parts.End.{End}
 pub use Rattle.wgsl_source.specs.declared.scope.Scope.{Scope}
 pub use Rattle.wgsl_source.specs.declared.structure.Member.{Member}

@@ -1,5 +1,5 @@
 -- The declarations that are read, one by one.
-use Rattle.std.proofs.Common.{◌≡◌, ◌≢◌, ◌⊎◌, inl, inr, Option, option_and_then, ℕ, zero, suc, true, false, Some, None, slice_get, List, [], ◌∷◌, ◌++◌, drop, take, map, ap, refl, subst, sym, ◌∙◌, append_assoc, append-nil, take-append-drop, All}
+use Rattle.std.proofs.Common.{◌≡◌, ◌≢◌, inl, inr, Option, option_and_then, ℕ, zero, suc, true, false, Some, None, slice_get, List, [], ◌∷◌, ◌++◌, drop, take, map, ap, refl, subst, sym, ◌∙◌, append_assoc, append-nil, take-append-drop, All}
 use Rattle.wgsl_source.proofs.Common.{map-append, All-cons, All-head, All-nil, All-tail, same_Some, Event, AreSameMembers, Grows, inner, members_of, without_offset, Declaration, End, MeasuredType, Member, Scope, Struct, TypeKind, Types, Written, Text}
 use Rattle.wgsl_source.specs.Attributes.{IsSaid}
 use Rattle.wgsl_source.specs.declared.attribute.Name.TheVariants as name
@@ -8,7 +8,7 @@ use Rattle.wgsl_source.specs.TextDeclarations.{declared_by}
 use Rattle.wgsl_source.specs.WrittenTypes.{Environment, HasType, environment, index_of, meaning_of}
 use Rattle.wgsl_source.proofs.WrittenTypes.{still_type}
 use Rattle.wgsl_source.specs.TextStructs.{AreAllTold, AreMembers, AreMembersBy, AreTold, AreTyped, IsMember, IsStructAt, IsTyped, IsTypeNamed, a_struct, an_alias, kept, left_out, misread_told, no_member, none_told, one_member, other_told}
-use Rattle.wgsl_source.specs.internal.Read.{AreAll, AreListed, AreMeant, AreNamed, AreOf, IsDeclaration, IsFrom, IsMeant, IsMeantType, IsMisread, IsOf, IsReadAs, IsReadOfKind, Stays, declaration, kept_listed, left_listed, misread, no_declaration, no_other, none_listed, none_meant, one_meant, other_listed}
+use Rattle.wgsl_source.specs.internal.Read.{AreAll, AreListed, AreMeant, AreMeantBy, AreNamed, AreOf, IsDeclaration, IsFrom, IsMeantType, IsMisread, IsOf, IsReadAs, IsReadOfKind, IsTypeBy, Stays, declaration, kept_listed, left_listed, misread, no_declaration, no_other, none_listed, none_meant, one_meant, other_listed}
 use Rattle.wgsl_source.specs.declared.declaration.DeclarationKind.{DeclarationKind}
 use Rattle.wgsl_source.specs.declared.declaration.DeclarationKind.TheVariants as kinds
 use Rattle.wgsl_source.specs.declared.measured.TypeKind.TheVariants as kind
@@ -179,32 +179,33 @@ site_of (suc i) d (declaration of rest) at readable = let h = site_of i d rest a
 site_of {t} zero d (misread {d = x} isnt rest) at readable = absurd (never_read t x isnt (ap (λ (y : Declaration). y.is_faulty) (same_Some x d at) ∙ readable))
 site_of (suc i) d (misread isnt rest) at readable = site_of i d rest at readable
 
-meant_at : {t : Text} {ss : List Struct} {ds : List Declaration} {ms : List Meaning} (i : ℕ) (d : Declaration) (m : Meaning) → AreMeant t ss ds ms → slice_get ds i ≡ Some d → slice_get ms i ≡ Some m
-    → IsMeant t ss d m
+pub meant_at : {Is : Declaration → Meaning → Type 0} {ds : List Declaration} {ms : List Meaning} (i : ℕ) (d : Declaration) (m : Meaning) → AreMeantBy Is ds ms → slice_get ds i ≡ Some d
+    → slice_get ms i ≡ Some m → Is d m
 meant_at i d m none_meant at is = absurd (let no : None ≡ Some d = at in cc)
-meant_at {t} {ss} zero d m (one_meant {d = x} {m = n} h rest) at is = subst (λ (y : Declaration). IsMeant t ss y m) (same_Some x d at) (subst (λ (y : Meaning). IsMeant t ss x y) (same_Some n m is) h)
+meant_at {Is} zero d m (one_meant {d = x} {m = n} h rest) at is = subst (λ (y : Declaration). Is y m) (same_Some x d at) (subst (λ (y : Meaning). Is x y) (same_Some n m is) h)
 meant_at (suc i) d m (one_meant h rest) at is = meant_at i d m rest at is
 
 of_struct : (t : Text) (ss : List Struct) (d : Declaration) (k : TypeKind) → IsReadOfKind t ss d k → (index : ℕ) × (k ≡ kind.Struct index) × IsReadAs t ss d index
 of_struct t ss d (kind.Struct index) h = (index, refl, h)
 of_struct t ss d k h = absurd h
 
-pub type_named : (t : Text) (ss : List Struct) (ds : List Declaration) (sites : List Site) (s : Scope) → AreOf t sites ds → AreMeant t ss ds s.meanings.items → AreNamed ds s → (name : List ℕ) (ty : MeasuredType)
-    → meaning_of s name ≡ Some (meaning.«Type» ty) → IsTypeNamed t ss sites name ty
-type_named t ss ds sites s are meant names name ty is = by (index_of s name) refl is
+pub type_named : (t : Text) (env : Environment) (ss : List Struct) (ds : List Declaration) (sites : List Site) (s : Scope) → AreOf t sites ds → AreMeant t env ss ds s.meanings.items → AreNamed ds s
+    → (name : List ℕ) (ty : MeasuredType) → meaning_of s name ≡ Some (meaning.«Type» ty) → IsTypeNamed t env ss sites name ty
+type_named t env ss ds sites s are meant names name ty is = by (index_of s name) refl is
   where
-    sort : (d : Declaration) → d.name.now ≡ name → IsMeantType t ss d ty → (k : ℕ) (site : Site) → slice_get sites k ≡ Some site → IsOf t site d → (d.kind ≡ kinds.Struct) ⊎ (d.kind ≡ kinds.Alias)
-        → IsTypeNamed t ss sites name ty
+    sort : (d : Declaration) → d.name.now ≡ name → IsMeantType t env ss d ty → (k : ℕ) (site : Site) → slice_get sites k ≡ Some site → IsOf t site d → IsTypeBy t env d ty
+        → IsTypeNamed t env ss sites name ty
     sort d called h k site there of (inl struct) =
         let read = of_struct t ss d ty.kind (h.struct struct) in
         a_struct read.0 read.2.struct read.1 read.2.there (read.2.from.name ∙ called)
-    sort d called h k site there of (inr alias) = an_alias k site there (of.kind ∙ ap Some alias) (sym called ∙ of.named.name)
+    sort d called h k site there of (inr alias) =
+        an_alias k site there (of.kind ∙ ap Some alias.0) (sym called ∙ of.named.name) (subst (λ es. HasType t env es ty) of.rest alias.1)
 
-    by : (o : Option ℕ) → index_of s name ≡ o → option_and_then (slice_get s.meanings.items) o ≡ Some (meaning.«Type» ty) → IsTypeNamed t ss sites name ty
+    by : (o : Option ℕ) → index_of s name ≡ o → option_and_then (slice_get s.meanings.items) o ≡ Some (meaning.«Type» ty) → IsTypeNamed t env ss sites name ty
     by None at is = absurd (let no : None ≡ Some (meaning.«Type» ty) = is in cc)
     by (Some i) at is =
         let found = names name i at in
-        let h : IsMeantType t ss found.0 ty = meant_at i found.0 (meaning.«Type» ty) meant found.1 is in
+        let h : IsMeantType t env ss found.0 ty = meant_at i found.0 (meaning.«Type» ty) meant found.1 is in
         let of = site_of i found.0 are found.1 h.readable in
         sort found.0 found.2 h of.0 of.1 of.2 of.3 h.sort
 

@@ -1,6 +1,6 @@
 -- The names among items, while the events of a template list are read.
-use Rattle.std.proofs.Common.{◌≡◌, ◌≢◌, ℕ, ◌+◌, ◌<◌, List, [], ◌∷◌, ◌++◌, length, get_or, drop, true, false, IfOk, Result, Ok, Err, Option, Some, None, option_map, ap, refl, subst, sym, ◌∙◌, append_assoc, map, append-nil}
-use Rattle.wgsl_source.proofs.Common.{at_drop_more, Event, word, access_text, default_access, may_say, token_before, AreSaid, Say, a_space, both, names_only, with_name, Text}
+use Rattle.std.proofs.Common.{◌≡◌, ◌≢◌, ℕ, ◌+◌, ◌<◌, List, [], ◌∷◌, ◌++◌, length, get_or, drop, false, IfOk, Result, Ok, Err, Option, Some, None, option_map, ap, refl, subst, sym, ◌∙◌, append_assoc, append-nil}
+use Rattle.wgsl_source.proofs.Common.{at_drop_more, Event, word, token_before, AreSaid, Say, a_space, both, names_only, with_name, Text}
 use Rattle.wgsl_reader.specs.declared.mark.Mark.{Mark}
 use Rattle.wgsl_reader.specs.declared.mark.Mark.TheVariants as m
 use Rattle.wgsl_reader.specs.declared.token.Token.{Token}

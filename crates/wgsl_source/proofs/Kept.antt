@@ -1,8 +1,9 @@
 -- What is kept of declarations, one by one.
 use Rattle.std.proofs.Common.{◌≡◌, ◌≢◌, ℕ, ◌+◌, ◌<◌, Bool, true, false, cond, Option, Some, None, IfOk, OnErr, OnOk, Result, Ok, Err, List, [], ◌∷◌, ◌++◌, get_or, length, take, arith, ap, refl, subst, sym, ◌∙◌, append_assoc, append-nil}
 use Rattle.std.specs.List.{dedup, dedup_from}
-use Rattle.wgsl_source.proofs.Common.{take_more, same_Some, Event, Site, Declaration, Text}
+use Rattle.wgsl_source.proofs.Common.{take_more, same_Some, Event, Site, Grows, Declaration, Scope, Text, Types}
 use Rattle.wgsl_source.specs.TextDeclarations.{AreAllDeclared, AreKept, HasDeclared, IsLeft, IsOne, Sort, declared_at, faulty, none, none_kept, of_aliases, of_entry_points, of_other_kind, of_overrides, of_variables, one_kept, one_left}
+use Rattle.wgsl_source.specs.WrittenTypes.{environment}
 use Rattle.wgsl_source.specs.internal.Others.{AddsKept, AddsOthers, IsAdded, IsKeptOf, IsLeftOf, IsReadOf, IsToldIn, declared_of, if_read, left, misread}
 use Rattle.wgsl_source.specs.internal.Read as read
 use Rattle.wgsl_source.specs.internal.Read.{AreAll, AreOf, IsOf, declaration, no_declaration, no_other}
@@ -10,7 +11,9 @@ use Rattle.wgsl_source.specs.declared.declaration.DeclarationKind.{DeclarationKi
 use Rattle.wgsl_source.specs.declared.declaration.DeclarationKind.TheVariants as kinds
 use Rattle.wgsl_source.specs.declared.fault.Fault.{Fault}
 use Rattle.wgsl_source.specs.declared.module.Module.{Module}
+use Rattle.wgsl_source.specs.declared.others.Alias.{Alias}
 use Rattle.wgsl_source.specs.declared.others.Others.{Others}
+use Rattle.wgsl_source.specs.declared.variable.Variable.{Variable}
 
 abbrev is_kind : DeclarationKind → DeclarationKind → Bool
 is_kind kinds.Alias kinds.Alias = true
@@ -79,60 +82,73 @@ module _ {A : Type 0} (sort : Sort A) where
   by_kind false result d k old new other is same =
       subst (λ ys. AddsKept sort ⊥ (if_read result d) old ys) (sym same) (other_added result d old (λ no. let bad : true ≡ false = sym (is_itself k) ∙ (ap (is_kind k) (sym is ∙ no) ∙ other) in cc))
 
--- a declaration of this kind is read
-pub all_added : {E R : Type 0} (t : Text) (r : Result R E) (d : Declaration) (k : DeclarationKind) (a b : Others) → d.kind ≡ k
-    → AddsIf (of_variables t) (is_kind k kinds.Variable) r d a.variables.items b.variables.items → AddsIf (of_overrides t) (is_kind k kinds.Override) r d a.overrides.items b.overrides.items
-    → AddsIf (of_entry_points t) (is_kind k kinds.Function) r d a.entry_points.items b.entry_points.items → AddsIf (of_aliases t) (is_kind k kinds.Alias) r d a.aliases.items b.aliases.items
-    → AddsOthers t ⊥ (if_read r d) a b
-all_added t r d k a b is variables overrides entry_points aliases = record {
-  variables = by_kind (of_variables t) (is_kind k kinds.Variable) r d k a.variables.items b.variables.items refl is variables;
-  overrides = by_kind (of_overrides t) (is_kind k kinds.Override) r d k a.overrides.items b.overrides.items refl is overrides;
-  entry_points = by_kind (of_entry_points t) (is_kind k kinds.Function) r d k a.entry_points.items b.entry_points.items refl is entry_points;
-  aliases = by_kind (of_aliases t) (is_kind k kinds.Alias) r d k a.aliases.items b.aliases.items refl is aliases;
-}
+module _ (s : Scope) (types : Types) where
+  abbrev typed_variables : Sort Variable
+  typed_variables = of_variables s.text (environment s types)
 
-pub no_others : (t : Text) (P : Type 0) (a : Others) → AddsOthers t P [] a a
-no_others t P a = record {
-  variables = adds_none (of_variables t) P a.variables.items;
-  overrides = adds_none (of_overrides t) P a.overrides.items;
-  entry_points = adds_none (of_entry_points t) P a.entry_points.items;
-  aliases = adds_none (of_aliases t) P a.aliases.items;
-}
+  abbrev typed_aliases : Sort Alias
+  typed_aliases = of_aliases s.text (environment s types)
 
-pub left_others : (t : Text) (P : Type 0) (d : Declaration) (a : Others) → ((A : Type 0) (sort : Sort A) → IsLeftOf sort P d) → AddsOthers t P (d ∷ []) a a
-left_others t P d a is = record {
-  variables = adds_left (of_variables t) P d a.variables.items (is _ (of_variables t));
-  overrides = adds_left (of_overrides t) P d a.overrides.items (is _ (of_overrides t));
-  entry_points = adds_left (of_entry_points t) P d a.entry_points.items (is _ (of_entry_points t));
-  aliases = adds_left (of_aliases t) P d a.aliases.items (is _ (of_aliases t));
-}
+  -- a declaration of this kind is read
+  pub all_added : {E R : Type 0} (r : Result R E) (d : Declaration) (k : DeclarationKind) (a b : Others) → d.kind ≡ k → AddsIf typed_variables (is_kind k kinds.Variable) r d a.variables.items b.variables.items
+      → AddsIf (of_overrides s.text) (is_kind k kinds.Override) r d a.overrides.items b.overrides.items
+      → AddsIf (of_entry_points s.text) (is_kind k kinds.Function) r d a.entry_points.items b.entry_points.items
+      → AddsIf typed_aliases (is_kind k kinds.Alias) r d a.aliases.items b.aliases.items → AddsOthers s types ⊥ (if_read r d) a b
+  all_added r d k a b is one two three four = record {
+    variables = by_kind typed_variables (is_kind k kinds.Variable) r d k a.variables.items b.variables.items refl is one;
+    overrides = by_kind (of_overrides s.text) (is_kind k kinds.Override) r d k a.overrides.items b.overrides.items refl is two;
+    entry_points = by_kind (of_entry_points s.text) (is_kind k kinds.Function) r d k a.entry_points.items b.entry_points.items refl is three;
+    aliases = by_kind typed_aliases (is_kind k kinds.Alias) r d k a.aliases.items b.aliases.items refl is four;
+  }
 
-pub others_further : (t : Text) (P Q : Type 0) (ds es : List Declaration) (a b c : Others) → (P → Q) → AddsOthers t P ds a b → AddsOthers t Q es b c → AddsOthers t Q (ds ++ es) a c
-others_further t P Q ds es a b c all g h = record {
-  variables = adds_further (of_variables t) P Q ds es a.variables.items b.variables.items c.variables.items all g.variables h.variables;
-  overrides = adds_further (of_overrides t) P Q ds es a.overrides.items b.overrides.items c.overrides.items all g.overrides h.overrides;
-  entry_points = adds_further (of_entry_points t) P Q ds es a.entry_points.items b.entry_points.items c.entry_points.items all g.entry_points h.entry_points;
-  aliases = adds_further (of_aliases t) P Q ds es a.aliases.items b.aliases.items c.aliases.items all g.aliases h.aliases;
-}
+  pub no_others : (P : Type 0) (a : Others) → AddsOthers s types P [] a a
+  no_others P a = record {
+    variables = adds_none typed_variables P a.variables.items;
+    overrides = adds_none (of_overrides s.text) P a.overrides.items;
+    entry_points = adds_none (of_entry_points s.text) P a.entry_points.items;
+    aliases = adds_none typed_aliases P a.aliases.items;
+  }
 
-pub others_still : (t : Text) (P Q : Type 0) (ds : List Declaration) (a b : Others) → (P → Q) → AddsOthers t P ds a b → AddsOthers t Q ds a b
-others_still t P Q ds a b all g = subst (λ es. AddsOthers t Q es a b) (append-nil ds) (others_further t P Q ds [] a b b all g (no_others t Q b))
+  pub left_others : (P : Type 0) (d : Declaration) (a : Others) → ((A : Type 0) (sort : Sort A) → IsLeftOf sort P d) → AddsOthers s types P (d ∷ []) a a
+  left_others P d a is = record {
+    variables = adds_left typed_variables P d a.variables.items (is _ typed_variables);
+    overrides = adds_left (of_overrides s.text) P d a.overrides.items (is _ (of_overrides s.text));
+    entry_points = adds_left (of_entry_points s.text) P d a.entry_points.items (is _ (of_entry_points s.text));
+    aliases = adds_left typed_aliases P d a.aliases.items (is _ typed_aliases);
+  }
 
-pub read_and_told : {A E : Type 0} (r : Result A E) (t : Text) (d : Declaration) (a b : Others) (faults : List Fault) → AddsOthers t ⊥ (if_read r d) a b → IsToldIn r faults
-    → AddsOthers t (faults ≢ []) (d ∷ []) a b
-read_and_told (Ok x) t d a b faults h told = others_still t ⊥ (faults ≢ []) (d ∷ []) a b (λ no. absurd no) h
-read_and_told (Err x) t d a b faults h told = others_further t ⊥ (faults ≢ []) [] (d ∷ []) a b b (λ no. absurd no) h (left_others t (faults ≢ []) d b (λ A sort. left (faulty told)))
+  others_further : (P Q : Type 0) (ds es : List Declaration) (a b c : Others) → (P → Q) → AddsOthers s types P ds a b → AddsOthers s types Q es b c → AddsOthers s types Q (ds ++ es) a c
+  others_further P Q ds es a b c all g h = record {
+    variables = adds_further typed_variables P Q ds es a.variables.items b.variables.items c.variables.items all g.variables h.variables;
+    overrides = adds_further (of_overrides s.text) P Q ds es a.overrides.items b.overrides.items c.overrides.items all g.overrides h.overrides;
+    entry_points = adds_further (of_entry_points s.text) P Q ds es a.entry_points.items b.entry_points.items c.entry_points.items all g.entry_points h.entry_points;
+    aliases = adds_further typed_aliases P Q ds es a.aliases.items b.aliases.items c.aliases.items all g.aliases h.aliases;
+  }
+
+  others_still : (P Q : Type 0) (ds : List Declaration) (a b : Others) → (P → Q) → AddsOthers s types P ds a b → AddsOthers s types Q ds a b
+  others_still P Q ds a b all g = subst (λ es. AddsOthers s types Q es a b) (append-nil ds) (others_further P Q ds [] a b b all g (no_others Q b))
+
+  pub read_and_told : {A E : Type 0} (r : Result A E) (d : Declaration) (a b : Others) (faults : List Fault) → AddsOthers s types ⊥ (if_read r d) a b → IsToldIn r faults
+      → AddsOthers s types (faults ≢ []) (d ∷ []) a b
+  read_and_told (Ok x) d a b faults h told = others_still ⊥ (faults ≢ []) (d ∷ []) a b (λ no. absurd no) h
+  read_and_told (Err x) d a b faults h told = others_further ⊥ (faults ≢ []) [] (d ∷ []) a b b (λ no. absurd no) h (left_others (faults ≢ []) d b (λ A sort. left (faulty told)))
+
+  -- one declaration of a list is read
+  pub one_of_all : (now : Scope) (P Q : Type 0) (ds : List Declaration) (i : ℕ) (d e : Declaration) (a b c : Others) → i < length ds → now ≡ s → (P → Q) → AddsOthers s types P (take i ds) a b
+      → AddsOthers now types Q (d ∷ []) b c → d ≡ get_or ds i e → AddsOthers s types Q (take (i + 1) ds) a c
+  one_of_all now P Q ds i d e a b c within same all g h is =
+      subst (λ es. AddsOthers s types Q es a c) (sym (take_more ds i e within)) (others_further P Q (take i ds) (get_or ds i e ∷ []) a b c all g
+      (subst (λ x. AddsOthers s types Q (x ∷ []) b c) is (subst (λ (u : Scope). AddsOthers u types Q (d ∷ []) b c) same h)))
+
+-- all are read
+pub others_last : (s now : Scope) (x y : Types) (P Q : Type 0) (ds : List Declaration) (a b : Others) → now ≡ s → y.elements.items ≡ x.elements.items → (P → Q)
+    → ((later : Types) → Grows x later → AddsOthers s later P ds a b) → AddsOthers now y Q ds a b
+others_last s now x y P Q ds a b same elements all h =
+    subst (λ (u : Scope). AddsOthers u y Q ds a b) (sym same) (others_still s y P Q ds a b all (h y (record { added = []; kept = elements ∙ sym (append-nil x.elements.items) })))
 
 pub on_ok_then : {A E : Type 0} (r : Result A E) (P Q : Type 0) → (P → Q) → OnOk r P → OnOk r Q
 on_ok_then (Ok x) P Q all h = all h
 on_ok_then (Err x) P Q all h = tt
-
--- one declaration of a list is read
-pub one_of_all : (t s : Text) (P Q : Type 0) (ds : List Declaration) (i : ℕ) (d e : Declaration) (a b c : Others) → i < length ds → s ≡ t → (P → Q) → AddsOthers t P (take i ds) a b
-    → AddsOthers s Q (d ∷ []) b c → d ≡ get_or ds i e → AddsOthers t Q (take (i + 1) ds) a c
-one_of_all t s P Q ds i d e a b c within same all g h is =
-    subst (λ es. AddsOthers t Q es a c) (sym (take_more ds i e within)) (others_further t P Q (take i ds) (get_or ds i e ∷ []) a b c all g
-    (subst (λ x. AddsOthers t Q (x ∷ []) b c) is (subst (λ (u : Text). AddsOthers u Q (d ∷ []) b c) same h)))
 
 -- faults are told
 
@@ -182,23 +198,26 @@ module _ (t : Text) (P : Type 0) where
     kept_at_sites (read.misread isnt rest) (one_kept is h) = absurd (let no : false ≡ true = sym is.readable ∙ isnt.faulty in cc)
     kept_at_sites (read.misread isnt rest) (one_left is h) = kept_at_sites rest h
 
-  all_kept : {A : Type 0} (sort : Text → Sort A) (whole : List Event) (ds : List Declaration) (old new found : List A) → AreAll t whole ds → AddsKept (sort t) P ds old new → old ≡ [] → found ≡ new
+  all_kept : {A : Type 0} (sort : Sort A) (whole : List Event) (ds : List Declaration) (old new found : List A) → AreAll t whole ds → AddsKept sort P ds old new → old ≡ [] → found ≡ new
       → AreAllDeclared sort t whole P found
   all_kept sort whole ds old new found are h empty same = record {
     sites = are.sites;
     stand = are.there;
-    kept = kept_at_sites (sort t) are.are (subst (λ xs. AreKept (IsKeptOf (sort t)) (IsLeftOf (sort t) P) ds xs) (sym (same ∙ (h.more ∙ ap (λ ys. ys ++ h.added) empty))) h.are);
+    kept = kept_at_sites sort are.are (subst (λ xs. AreKept (IsKeptOf sort) (IsLeftOf sort P) ds xs) (sym (same ∙ (h.more ∙ ap (λ ys. ys ++ h.added) empty))) h.are);
   }
 
-pub has_declared : (t s : Text) (whole : List Event) (ds : List Declaration) (faults : List Fault) (a b : Others) (m : Module) → AreAll t whole ds → s ≡ t
-    → AddsOthers s (faults ≢ []) ds a b → a.variables.items ≡ [] → a.overrides.items ≡ [] → a.entry_points.items ≡ [] → a.aliases.items ≡ [] → m.faults.items ≡ faults
-    → m.variables ≡ b.variables → m.overrides ≡ b.overrides → m.entry_points ≡ b.entry_points → m.aliases ≡ b.aliases → HasDeclared t whole m
-has_declared t s whole ds faults a b m are same added variables overrides entry_points aliases told all_variables all_overrides all_entry_points all_aliases =
+pub has_declared : (t : Text) (s : Scope) (types : Types) (whole : List Event) (ds : List Declaration) (faults : List Fault) (a b : Others) (m : Module) → AreAll t whole ds → s.text ≡ t
+    → AddsOthers s types (faults ≢ []) ds a b → a.variables.items ≡ [] → a.overrides.items ≡ [] → a.entry_points.items ≡ [] → a.aliases.items ≡ [] → m.faults.items ≡ faults
+    → m.variables ≡ b.variables → m.overrides ≡ b.overrides → m.entry_points ≡ b.entry_points → m.aliases ≡ b.aliases → HasDeclared t (environment s types) whole m
+has_declared t s types whole ds faults a b m are same added variables overrides entry_points aliases told all_variables all_overrides all_entry_points all_aliases =
+    let u = s.text in
+    let env = environment s types in
     let P = m.faults.items ≢ [] in
-    let h = subst (λ fs. AddsOthers t (fs ≢ []) ds a b) (sym told) (subst (λ (u : Text). AddsOthers u (faults ≢ []) ds a b) same added) in
-    record {
-      variables = all_kept t P of_variables whole ds a.variables.items b.variables.items m.variables.items are h.variables variables (ap (λ v. v.items) all_variables);
-      overrides = all_kept t P of_overrides whole ds a.overrides.items b.overrides.items m.overrides.items are h.overrides overrides (ap (λ v. v.items) all_overrides);
-      entry_points = all_kept t P of_entry_points whole ds a.entry_points.items b.entry_points.items m.entry_points.items are h.entry_points entry_points (ap (λ v. v.items) all_entry_points);
-      aliases = all_kept t P of_aliases whole ds a.aliases.items b.aliases.items m.aliases.items are h.aliases aliases (ap (λ v. v.items) all_aliases);
-    }
+    let of = subst (λ (t : Text). AreAll t whole ds) (sym same) are in
+    let h = subst (λ fs. AddsOthers s types (fs ≢ []) ds a b) (sym told) added in
+    subst (λ (t : Text). HasDeclared t env whole m) same (record {
+      variables = all_kept u P (of_variables u env) whole ds a.variables.items b.variables.items m.variables.items of h.variables variables (ap (λ v. v.items) all_variables);
+      overrides = all_kept u P (of_overrides u) whole ds a.overrides.items b.overrides.items m.overrides.items of h.overrides overrides (ap (λ v. v.items) all_overrides);
+      entry_points = all_kept u P (of_entry_points u) whole ds a.entry_points.items b.entry_points.items m.entry_points.items of h.entry_points entry_points (ap (λ v. v.items) all_entry_points);
+      aliases = all_kept u P (of_aliases u env) whole ds a.aliases.items b.aliases.items m.aliases.items of h.aliases aliases (ap (λ v. v.items) all_aliases);
+    })

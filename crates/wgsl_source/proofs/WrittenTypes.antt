@@ -153,3 +153,6 @@ stays_set a b i m names meanings unread = record {
     none_at : (o : Option ℕ) → option_and_then (slice_get a.meanings.items) o ≡ None → option_and_then (slice_get (set a.meanings.items i m)) o ≡ None
     none_at (Some j) is = set_none a.meanings.items i j m is
     none_at None is = is
+
+pub still_unread : (i : ℕ) (a b : Scope) → b ≡ a → slice_get a.meanings.items i ≡ Some meaning.Unread → slice_get b.meanings.items i ≡ Some meaning.Unread
+still_unread i a b same is = subst (λ (s : Scope). slice_get s.meanings.items i ≡ Some meaning.Unread) (sym same) is

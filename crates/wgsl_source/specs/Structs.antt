@@ -9,7 +9,7 @@ use Rattle.wgsl_source.specs.WrittenTypes.{environment}
 use Rattle.wgsl_source.specs.internal.Read.{IsFrom, Stays}
 use Rattle.wgsl_source.specs.declared.declaration.Declaration.{Declaration}
 use Rattle.wgsl_source.specs.declared.measured.MeasuredType.{MeasuredType}
-use Rattle.wgsl_source.specs.declared.module.Reader.{Reader}
+use Rattle.wgsl_source.specs.declared.reader.Reader.{Reader}
 use Rattle.wgsl_source.specs.declared.scope.Meaning.{Meaning}
 use Rattle.wgsl_source.specs.declared.scope.Meaning.TheVariants as meaning
 use Rattle.wgsl_source.specs.declared.structure.Struct.{Struct}

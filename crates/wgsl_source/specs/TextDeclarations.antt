@@ -5,6 +5,7 @@ use Rattle.wgsl_spelling.specs.Words.{word}
 use Rattle.wgsl_source.specs.Attributes.{Attribute, InFront, IsSaid, last_said, stage_by}
 use Rattle.wgsl_source.specs.Declarations.{AreSites, Site, declaration_len, declared_type, end_at, first_count, inner, list_len, token_before}
 use Rattle.wgsl_source.specs.Qualifiers.{IsQualified}
+use Rattle.wgsl_source.specs.WrittenTypes.{Environment, HasType}
 use Rattle.wgsl_source.specs.declared.attribute.Name.TheVariants as name
 use Rattle.wgsl_source.specs.declared.declaration.DeclarationKind.{DeclarationKind}
 use Rattle.wgsl_source.specs.declared.declaration.DeclarationKind.TheVariants as kinds
@@ -54,11 +55,12 @@ pub record Stands (t : Text) (d : Declared) (text : List ℕ) (at : ℕ) : Type 
   pub there : InFront t d.attributes attributes
 
 -- `@group(0) @binding(1) var<storage> lights: array<Light>;`
-pub record IsVariable (t : Text) (d : Declared) (v : Variable) : Type 0 where
+pub record IsVariable (t : Text) (env : Environment) (d : Declared) (v : Variable) : Type 0 where
   pub stands : Stands t d v.name.now v.place
   pub group : IsSaid name.Group stands.attributes v.group
   pub binding : IsSaid name.Binding stands.attributes v.binding
   pub qualified : IsQualified t d.list v.space v.access
+  pub written : HasType t env (declared_type d.rest) v.ty
 
 -- `@id(7) override width: u32 = 4;`
 pub record IsOverride (t : Text) (d : Declared) (o : Override) : Type 0 where
@@ -77,8 +79,9 @@ pub record HasNoStage (t : Text) (d : Declared) : Type 0 where
   pub none : last_said stage_by attributes ≡ None
 
 -- `alias Color = vec4<f32>;`
-pub record IsAlias (d : Declared) (a : Alias) : Type 0 where
+pub record IsAlias (t : Text) (env : Environment) (d : Declared) (a : Alias) : Type 0 where
   pub name : a.name.now ≡ d.name
+  pub written : HasType t env d.rest a.ty
 
 -- What is kept of declarations of a kind, and of which nothing is: of `var<private> count = 1u;`, whose type follows from its value.
 pub record Sort (A : Type 0) : Type 1 where
@@ -86,8 +89,8 @@ pub record Sort (A : Type 0) : Type 1 where
   pub Is : Declared → A → Type 0
   pub IsNone : Declared → Type 0
 
-abbrev pub of_variables : Text → Sort Variable
-of_variables t = record { kind = kinds.Variable; Is = IsVariable t; IsNone = λ d. declared_type d.rest ≡ [] }
+abbrev pub of_variables : Text → Environment → Sort Variable
+of_variables t env = record { kind = kinds.Variable; Is = IsVariable t env; IsNone = λ d. declared_type d.rest ≡ [] }
 
 abbrev pub of_overrides : Text → Sort Override
 of_overrides t = record { kind = kinds.Override; Is = IsOverride t; IsNone = λ d. ⊥ }
@@ -95,8 +98,8 @@ of_overrides t = record { kind = kinds.Override; Is = IsOverride t; IsNone = λ 
 abbrev pub of_entry_points : Text → Sort EntryPoint
 of_entry_points t = record { kind = kinds.Function; Is = IsEntryPoint t; IsNone = HasNoStage t }
 
-abbrev pub of_aliases : Text → Sort Alias
-of_aliases t = record { kind = kinds.Alias; Is = IsAlias; IsNone = λ d. ⊥ }
+abbrev pub of_aliases : Text → Environment → Sort Alias
+of_aliases t env = record { kind = kinds.Alias; Is = IsAlias t env; IsNone = λ d. ⊥ }
 
 pub record IsOne {A : Type 0} (sort : Sort A) (d : Declared) (a : A) : Type 0 where
   pub of_kind : d.kind ≡ Some sort.kind
@@ -115,14 +118,14 @@ pub data AreKept {A B : Type 0} (IsKept : A → B → Type 0) (IsLeftOut : A →
   one_left : {a : A} {xs : List A} {ys : List B} → IsLeftOut a → AreKept IsKept IsLeftOut xs ys → AreKept IsKept IsLeftOut (a ∷ xs) ys
 
 -- Each that the events declare is there, in order, and no other one; if there are faults, some may be missing.
-pub record AreAllDeclared {A : Type 0} (sort : Text → Sort A) (t : Text) (whole : List Event) (IsFaulty : Type 0) (found : List A) : Type 0 where
+pub record AreAllDeclared {A : Type 0} (sort : Sort A) (t : Text) (whole : List Event) (IsFaulty : Type 0) (found : List A) : Type 0 where
   pub sites : List Site
   pub stand : AreSites t whole sites
-  pub kept : AreKept (λ site. IsOne (sort t) (declared_at t site)) (λ site. IsLeft (sort t) IsFaulty (declared_at t site)) sites found
+  pub kept : AreKept (λ site. IsOne sort (declared_at t site)) (λ site. IsLeft sort IsFaulty (declared_at t site)) sites found
 
 -- the variables, overrides, entry points and aliases of a module are those that the events declare
-pub record HasDeclared (t : Text) (whole : List Event) (m : Module) : Type 0 where
-  pub variables : AreAllDeclared of_variables t whole (m.faults.items ≢ []) m.variables.items
-  pub overrides : AreAllDeclared of_overrides t whole (m.faults.items ≢ []) m.overrides.items
-  pub entry_points : AreAllDeclared of_entry_points t whole (m.faults.items ≢ []) m.entry_points.items
-  pub aliases : AreAllDeclared of_aliases t whole (m.faults.items ≢ []) m.aliases.items
+pub record HasDeclared (t : Text) (env : Environment) (whole : List Event) (m : Module) : Type 0 where
+  pub variables : AreAllDeclared (of_variables t env) t whole (m.faults.items ≢ []) m.variables.items
+  pub overrides : AreAllDeclared (of_overrides t) t whole (m.faults.items ≢ []) m.overrides.items
+  pub entry_points : AreAllDeclared (of_entry_points t) t whole (m.faults.items ≢ []) m.entry_points.items
+  pub aliases : AreAllDeclared (of_aliases t env) t whole (m.faults.items ≢ []) m.aliases.items

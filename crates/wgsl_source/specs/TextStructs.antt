@@ -1,11 +1,11 @@
 -- The structs that a module's text declares, by the events of the grammar (WGSL, "Structure Types").
-use Rattle.std.specs.Prelude.{◌≡◌, ◌≢◌, ℕ, List, [], ◌∷◌, ◌++◌, Option, Some, drop, slice_get, take}
+use Rattle.std.specs.Prelude.{◌≡◌, ◌≢◌, ℕ, List, [], ◌∷◌, ◌++◌, Some, drop, slice_get, take}
 use Rattle.std.specs.List.{All}
 use Rattle.wgsl_reader.specs.declared.read.Event.{Event}
 use Rattle.wgsl_spelling.specs.Words.{word}
 use Rattle.wgsl_source.specs.Attributes.{Attribute, InFront, IsSaid}
 use Rattle.wgsl_source.specs.Declarations.{AreSites, BehindAttributes, IsNamed, Site, declaration_len, end_at, first_count, inner, len_to, token_before}
-use Rattle.wgsl_source.specs.TextDeclarations.{declared_by}
+use Rattle.wgsl_source.specs.TextDeclarations.{HasDeclared, declared_at}
 use Rattle.wgsl_source.specs.declared.declaration.DeclarationKind.TheVariants as kinds
 use Rattle.wgsl_source.specs.WrittenTypes.{Environment, HasType}
 use Rattle.wgsl_source.specs.declared.attribute.Name.TheVariants as name
@@ -13,7 +13,6 @@ use Rattle.wgsl_source.specs.declared.module.Module.{Module}
 use Rattle.wgsl_source.specs.declared.parts.End.TheVariants as e
 use Rattle.wgsl_source.specs.declared.measured.MeasuredType.{MeasuredType}
 use Rattle.wgsl_source.specs.declared.measured.TypeKind.TheVariants as kind
-use Rattle.wgsl_source.specs.declared.scope.Meaning.{Meaning}
 use Rattle.wgsl_source.specs.declared.scope.Meaning.TheVariants as meaning
 use Rattle.wgsl_source.specs.declared.structure.Member.{Member}
 use Rattle.wgsl_source.specs.declared.structure.Struct.{Struct}
@@ -62,19 +61,21 @@ pub record IsDeclared (t : Text) (env : Environment) (whole : List Event) (struc
   pub is : IsStructAt t first struct
   pub types : AreTyped t env (inner (take (declaration_len t first) first)) struct.members.items
 
--- a name is that of an alias, or of the struct that the type is: `alias Color = vec3f;`, `struct Light {..}`
-pub data IsTypeNamed (t : Text) (structs : List Struct) (sites : List Site) (name : List ℕ) (ty : MeasuredType) : Type 0 where
-  an_alias : (k : ℕ) (site : Site) → slice_get sites k ≡ Some site → declared_by (end_at t site.first) ≡ Some kinds.Alias → name ≡ word t.text.now (token_before t (first_count site.first))
-      → IsTypeNamed t structs sites name ty
-  a_struct : (index : ℕ) (struct : Struct) → ty.kind ≡ kind.Struct index → slice_get structs index ≡ Some struct → struct.name.now ≡ name → IsTypeNamed t structs sites name ty
+-- a name is that of an alias of the type, or of the struct that the type is: `alias Color = vec3f;`, `struct Light {..}`
+pub data IsTypeNamed (t : Text) (env : Environment) (structs : List Struct) (sites : List Site) (name : List ℕ) (ty : MeasuredType) : Type 0 where
+  an_alias : (k : ℕ) (site : Site) → slice_get sites k ≡ Some site → (declared_at t site).kind ≡ Some kinds.Alias → name ≡ (declared_at t site).name
+      → HasType t env (declared_at t site).rest ty → IsTypeNamed t env structs sites name ty
+  a_struct : (index : ℕ) (struct : Struct) → ty.kind ≡ kind.Struct index → slice_get structs index ≡ Some struct → struct.name.now ≡ name → IsTypeNamed t env structs sites name ty
 
--- Each struct is declared there. The names of aliases and structs, and no others, stand for types of their own, each for one.
+-- Each struct is declared there, and so is everything else. The names of aliases and structs, and no others, stand for types, each for one.
 pub record AreDeclared (t : Text) (whole : List Event) (m : Module) : Type 0 where
-  pub named : List ℕ → Option Meaning
+  pub env : Environment
+  pub elements : env.elements ≡ m.elements.items
   pub sites : List Site
   pub stand : AreSites t whole sites
-  pub types : (name : List ℕ) (ty : MeasuredType) → named name ≡ Some (meaning.«Type» ty) → IsTypeNamed t m.structs.items sites name ty
-  pub structs : All (IsDeclared t (record { named = named; elements = m.elements.items }) whole) m.structs.items
+  pub types : (name : List ℕ) (ty : MeasuredType) → env.named name ≡ Some (meaning.«Type» ty) → IsTypeNamed t env m.structs.items sites name ty
+  pub structs : All (IsDeclared t env whole) m.structs.items
+  pub others : HasDeclared t env whole m
 
 -- Each struct that is declared there is one of these, at the next index, or is left out under its name. So are those that can't
 -- be read, under names that stand in the text.

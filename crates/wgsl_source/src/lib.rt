@@ -24,6 +24,7 @@ mod noted;
 mod order;
 pub mod others;
 mod parts;
+mod reader;
 mod scope;
 pub mod structure;
 mod telling;

@@ -1,5 +1,6 @@
 // The structs of a module in the order of the text.
 ghost use Rattle.std.specs.Prelude.{◌≡◌, IfSome, List, OnOk, ◌∷◌, []};
+ghost use Rattle.wgsl_source.specs.WrittenTypes.{Environment};
 ghost use Rattle.wgsl_source.specs.internal.Read.{IsMeant, IsReadAs, Lists};
 ghost use Rattle.wgsl_source.specs.declared.declaration.Declaration.{Declaration as of_declaration};
 ghost use Rattle.wgsl_source.specs.declared.structure.Struct.{Struct as of_struct};
@@ -37,7 +38,7 @@ impl<'t> Listed<'t> {
         declaration: &Declaration<'t>,
         meaning: Meaning,
     ) -> Result<(), AllocError>
-        ensures { (t : of_text) (structs : List of_struct) → IsMeant t structs declaration.now meaning
+        ensures { (t : of_text) (env : Environment) (structs : List of_struct) → IsMeant t env structs declaration.now meaning
             → OnOk result (Lists t structs (declaration.now ∷ []) self.old self.new) }
     {
         match declaration.kind {
@@ -51,8 +52,8 @@ impl<'t> Listed<'t> {
         declaration: &Declaration<'t>,
         meaning: Meaning,
     ) -> Result<(), AllocError>
-        ensures { (t : of_text) (structs : List of_struct) → declaration.now.kind ≡ DeclarationKind.Struct
-            → IsMeant t structs declaration.now meaning
+        ensures { (t : of_text) (env : Environment) (structs : List of_struct) → declaration.now.kind ≡ DeclarationKind.Struct
+            → IsMeant t env structs declaration.now meaning
             → OnOk result (Lists t structs (declaration.now ∷ []) self.old self.new) }
     {
         match index_of(meaning) {
@@ -64,8 +65,8 @@ impl<'t> Listed<'t> {
 
 /// The index of the struct that a name stands for.
 fn index_of(meaning: Meaning) -> Option<usize>
-    ensures { IfSome result (λ index. (t : of_text) (structs : List of_struct) (d : of_declaration) → d.kind ≡ DeclarationKind.Struct
-        → IsMeant t structs d meaning → IsReadAs t structs d index) }
+    ensures { IfSome result (λ index. (t : of_text) (env : Environment) (structs : List of_struct) (d : of_declaration) → d.kind ≡ DeclarationKind.Struct
+        → IsMeant t env structs d meaning → IsReadAs t structs d index) }
 {
     match meaning {
         Meaning::Type(ty) => match ty.kind {

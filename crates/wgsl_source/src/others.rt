@@ -1,8 +1,11 @@
 // The variables, overrides, entry points and aliases of a module in the order of the text.
-ghost use Rattle.std.specs.Prelude.{◌≡◌, [], IfOk, OnErr, OnOk, false};
+ghost use Rattle.std.specs.Prelude.{◌≡◌, [], IfOk, IfSome, OnErr, OnOk, Some, false, slice_get};
 ghost use Rattle.wgsl_source.specs.Members.{Grows};
 ghost use Rattle.wgsl_source.specs.TextDeclarations.{of_aliases};
+ghost use Rattle.wgsl_source.specs.WrittenTypes.{environment};
+ghost use Rattle.wgsl_source.specs.declared.types.Types.{Types as of_types};
 ghost use Rattle.wgsl_source.specs.internal.Others.{AddsOthers, IsAdded, IsReadOf, if_read};
+ghost use Rattle.wgsl_source.specs.internal.Read.{IsMeantAt};
 
 use crate::declaration::{Declaration, DeclarationKind};
 use crate::entry::{EntryPoint, Override};
@@ -54,8 +57,8 @@ impl<'t> Others<'t> {
         declaration: &Declaration<'t>,
     ) -> Result<(), Stop>
         ensures grows { Grows types.old types.new }
-        ensures read { declaration.now.is_faulty ≡ false
-            → AddsOthers scope.now.text ⊥ (if_read result declaration.now) self.old self.new }
+        ensures read { declaration.now.is_faulty ≡ false → (later : of_types) → Grows types.new later
+            → IsMeantAt scope.now later index declaration.now → AddsOthers scope.now later ⊥ (if_read result declaration.now) self.old self.new }
     {
         match declaration.kind {
             DeclarationKind::Variable => {
@@ -76,14 +79,25 @@ impl<'t> Others<'t> {
 impl<'t> Scope<'t> {
     /// The alias that a declaration declares, which has this index.
     fn alias(&self, index: usize, declaration: &Declaration<'t>) -> Result<Option<Alias<'t>>, Stop>
-        ensures { IfOk result (IsReadOf (of_aliases self.now.text) declaration.now) }
+        ensures { declaration.now.kind ≡ DeclarationKind.Alias → (types : of_types) → IsMeantAt self.now types index declaration.now
+            → IfOk result (IsReadOf (of_aliases self.now.text (environment self.now types)) declaration.now) }
+    {
+        match self.type_at(index) {
+            Some(ty) => Ok(Some(Alias {
+                name: declaration.name,
+                ty,
+            })),
+            None => Err(Stop::Elsewhere(declaration.place)),
+        }
+    }
+
+    /// The type that the declaration with this index stands for.
+    fn type_at(&self, index: usize) -> Option<MeasuredType>
+        ensures { IfSome result (λ ty. slice_get self.now.meanings.items index ≡ Some (Meaning.Type ty)) }
     {
         match self.meanings.get(index) {
-            Some(Meaning::Type(ty)) => Ok(Some(Alias {
-                name: declaration.name,
-                ty: *ty,
-            })),
-            _ => Err(Stop::Elsewhere(declaration.place)),
+            Some(Meaning::Type(ty)) => Some(*ty),
+            _ => None,
         }
     }
 }

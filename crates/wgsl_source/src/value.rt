@@ -1,6 +1,8 @@
 // What is known of a value when a module is read.
 ghost use Rattle.std.specs.Prelude.{IfOk};
+ghost use Rattle.wgsl_source.specs.WrittenTypes.{Environment};
 ghost use Rattle.wgsl_source.specs.declared.declaration.Declaration.{Declaration as of_declaration};
+ghost use Rattle.wgsl_source.specs.declared.text.Text.{Text as of_text};
 ghost use Rattle.wgsl_source.specs.internal.Read.{IsOfSort};
 
 use crate::fault::{Cause, Stop};
@@ -134,7 +136,7 @@ fn float(constant: Constant, scalar: Scalar) -> Result<Value, Cause> {
 impl<'t> Scope<'t> {
     /// What a constant with this value stands for, in its type if one is declared.
     pub fn constant(&self, value: &[Event], ty: Option<MeasuredType>) -> Result<Meaning, Stop>
-        ensures { (d : of_declaration) → IfOk result (IsOfSort d) }
+        ensures { (t : of_text) → (env : Environment) → (d : of_declaration) → IfOk result (IsOfSort t env d) }
     {
         match self.constant_value(value, ty) {
             Ok(value) => Ok(Meaning::Value(value)),

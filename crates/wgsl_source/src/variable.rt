@@ -3,6 +3,8 @@ ghost use Rattle.std.specs.Prelude.{◌∷◌, IfOk};
 ghost use Rattle.wgsl_source.specs.Members.{Grows};
 ghost use Rattle.wgsl_source.specs.Qualifiers.{AreSaid, IsQualified};
 ghost use Rattle.wgsl_source.specs.TextDeclarations.{of_variables};
+ghost use Rattle.wgsl_source.specs.WrittenTypes.{HasType, environment};
+ghost use Rattle.wgsl_source.specs.declared.types.Types.{Types as of_types};
 ghost use Rattle.wgsl_source.specs.internal.Items.{item_names};
 ghost use Rattle.wgsl_source.specs.internal.Others.{IsReadOf};
 
@@ -39,7 +41,8 @@ impl<'t> Scope<'t> {
         declaration: &Declaration<'t>,
     ) -> Result<Option<Variable<'t>>, Stop>
         ensures grows { Grows types.old types.new }
-        ensures read { IfOk result (IsReadOf (of_variables self.now.text) declaration.now) }
+        ensures read { (later : of_types) → Grows types.new later
+            → IfOk result (IsReadOf (of_variables self.now.text (environment self.now later)) declaration.now) }
     {
         let (attributes, _) = self.read_attributes(declaration.attributes, Owner::Variable)?;
         let (space, access) = self.read_qualifiers(types, declaration)?;
@@ -72,7 +75,8 @@ impl<'t> Scope<'t> {
         noted: &[Event],
         space: AddressSpace,
     ) -> Result<MeasuredType, Stop>
-        ensures { Grows types.old types.new }
+        ensures grows { Grows types.old types.new }
+        ensures written { IfOk result (HasType self.now.text (environment self.now types.new) noted.now) }
     {
         let ty = self.type_noted(types, noted)?;
         match ty.kind {

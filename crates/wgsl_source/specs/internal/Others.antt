@@ -6,12 +6,14 @@ use Rattle.wgsl_constants.specs.declared.constant.Constant.{Constant}
 use Rattle.wgsl_constants.specs.declared.constant.Constant.TheVariants as constant
 use Rattle.wgsl_source.specs.Attributes.{Attribute, IsNumberOf, argument_if, stage_by}
 use Rattle.wgsl_source.specs.TextDeclarations.{AreKept, Declared, IsLeft, IsOne, Sort, of_aliases, of_entry_points, of_overrides, of_variables}
+use Rattle.wgsl_source.specs.WrittenTypes.{environment}
 use Rattle.wgsl_source.specs.declared.attribute.Attributes.{Attributes}
 use Rattle.wgsl_source.specs.declared.attribute.Name.TheVariants as name
 use Rattle.wgsl_source.specs.declared.declaration.Declaration.{Declaration}
 use Rattle.wgsl_source.specs.declared.fault.Fault.{Fault}
 use Rattle.wgsl_source.specs.declared.others.Others.{Others}
-use Rattle.wgsl_source.specs.declared.text.Text.{Text}
+use Rattle.wgsl_source.specs.declared.scope.Scope.{Scope}
+use Rattle.wgsl_source.specs.declared.types.Types.{Types}
 use Rattle.wgsl_source.specs.declared.value.Value.{Value}
 use Rattle.wgsl_source.specs.declared.value.Value.TheVariants as value
 
@@ -38,11 +40,11 @@ pub record AddsKept {A : Type 0} (sort : Sort A) (IsFaulty : Type 0) (ds : List 
   pub are : AreKept (IsKeptOf sort) (IsLeftOf sort IsFaulty) ds added
 
 -- what declarations declare is added; what isn't may be left out because of this fault
-pub record AddsOthers (t : Text) (IsFaulty : Type 0) (ds : List Declaration) (old new : Others) : Type 0 where
-  pub variables : AddsKept (of_variables t) IsFaulty ds old.variables.items new.variables.items
-  pub overrides : AddsKept (of_overrides t) IsFaulty ds old.overrides.items new.overrides.items
-  pub entry_points : AddsKept (of_entry_points t) IsFaulty ds old.entry_points.items new.entry_points.items
-  pub aliases : AddsKept (of_aliases t) IsFaulty ds old.aliases.items new.aliases.items
+pub record AddsOthers (s : Scope) (types : Types) (IsFaulty : Type 0) (ds : List Declaration) (old new : Others) : Type 0 where
+  pub variables : AddsKept (of_variables s.text (environment s types)) IsFaulty ds old.variables.items new.variables.items
+  pub overrides : AddsKept (of_overrides s.text) IsFaulty ds old.overrides.items new.overrides.items
+  pub entry_points : AddsKept (of_entry_points s.text) IsFaulty ds old.entry_points.items new.entry_points.items
+  pub aliases : AddsKept (of_aliases s.text (environment s types)) IsFaulty ds old.aliases.items new.aliases.items
 
 -- the declaration, if reading goes on
 abbrev pub if_read : {A E : Type 0} → Result A E → Declaration → List Declaration

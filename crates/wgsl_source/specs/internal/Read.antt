@@ -1,5 +1,5 @@
 -- What is known of a declaration while a module is read.
-use Rattle.std.specs.Prelude.{◌≡◌, ◌≢◌, ◌⊎◌, ℕ, List, [], ◌∷◌, ◌++◌, Option, Some, None, IsTrue, false, drop, map, slice_get, take}
+use Rattle.std.specs.Prelude.{◌≡◌, ◌≢◌, ◌⊎◌, ℕ, List, [], ◌∷◌, ◌++◌, Some, None, IsTrue, false, drop, map, slice_get, take}
 use Rattle.std.specs.List.{All}
 use Rattle.wgsl_reader.specs.declared.read.Event.{Event}
 use Rattle.wgsl_spelling.specs.Words.{word}
@@ -10,17 +10,18 @@ use Rattle.wgsl_source.specs.declared.declaration.Declaration.{Declaration}
 use Rattle.wgsl_source.specs.declared.declaration.DeclarationKind.TheVariants as kinds
 use Rattle.wgsl_source.specs.declared.declaration.Read.{Read}
 use Rattle.wgsl_source.specs.declared.listed.Listed.{Listed}
-use Rattle.wgsl_source.specs.declared.module.Reader.{Reader}
+use Rattle.wgsl_source.specs.declared.reader.Reader.{Reader}
 use Rattle.wgsl_source.specs.declared.measured.TypeKind.{TypeKind}
 use Rattle.wgsl_source.specs.declared.measured.TypeKind.TheVariants as kind
 use Rattle.wgsl_source.specs.declared.parts.End.TheVariants as e
 use Rattle.wgsl_source.specs.declared.measured.MeasuredType.{MeasuredType}
 use Rattle.wgsl_source.specs.declared.scope.Meaning.{Meaning}
 use Rattle.wgsl_source.specs.declared.scope.Scope.{Scope}
-use Rattle.wgsl_source.specs.WrittenTypes.{index_of, meaning_of}
+use Rattle.wgsl_source.specs.WrittenTypes.{Environment, HasType, environment, index_of, meaning_of}
 use Rattle.wgsl_source.specs.declared.scope.Meaning.TheVariants as meaning
 use Rattle.wgsl_source.specs.declared.structure.Struct.{Struct}
 use Rattle.wgsl_source.specs.declared.text.Text.{Text}
+use Rattle.wgsl_source.specs.declared.types.Types.{Types}
 
 -- the next declaration, directive or assertion of some events
 pub record IsNext (t : Text) (events : List Event) (r : Read) : Type 0 where
@@ -128,29 +129,46 @@ abbrev pub IsReadOfKind : Text → List Struct → Declaration → TypeKind → 
 IsReadOfKind t structs d (kind.Struct index) = IsReadAs t structs d index
 IsReadOfKind t structs d other = ⊥
 
--- an alias or a struct that can be read means a type: a struct the one that is read of it
-pub record IsMeantType (t : Text) (structs : List Struct) (d : Declaration) (ty : MeasuredType) : Type 0 where
+-- aliases and structs alone stand for types, an alias for the one that is written behind its name
+abbrev pub IsTypeBy : Text → Environment → Declaration → MeasuredType → Type 0
+IsTypeBy t env d ty = (d.kind ≡ kinds.Struct) ⊎ ((d.kind ≡ kinds.Alias) × HasType t env d.rest.now ty)
+
+abbrev pub IsOfSort : Text → Environment → Declaration → Meaning → Type 0
+IsOfSort t env d (meaning.«Type» ty) = IsTypeBy t env d ty
+IsOfSort t env d _ = Unit {0}
+
+-- the declaration that can be read means a type: a struct the one that is read of it
+pub record IsMeantType (t : Text) (env : Environment) (structs : List Struct) (d : Declaration) (ty : MeasuredType) : Type 0 where
   pub readable : d.is_faulty ≡ false
-  pub sort : (d.kind ≡ kinds.Struct) ⊎ (d.kind ≡ kinds.Alias)
+  pub sort : IsTypeBy t env d ty
   pub struct : d.kind ≡ kinds.Struct → IsReadOfKind t structs d ty.kind
 
 -- what a declaration means
-abbrev pub IsMeant : Text → List Struct → Declaration → Meaning → Type 0
-IsMeant t structs d (meaning.«Type» ty) = IsMeantType t structs d ty
-IsMeant t structs d _ = Unit {0}
+abbrev pub IsMeant : Text → Environment → List Struct → Declaration → Meaning → Type 0
+IsMeant t env structs d (meaning.«Type» ty) = IsMeantType t env structs d ty
+IsMeant t env structs d _ = Unit {0}
 
--- aliases and structs alone mean types
-abbrev pub IsOfSort : Declaration → Meaning → Type 0
-IsOfSort d (meaning.«Type» ty) = (d.kind ≡ kinds.Struct) ⊎ (d.kind ≡ kinds.Alias)
-IsOfSort d _ = Unit {0}
+abbrev pub IsNoType : Declaration → Meaning → Type 0
+IsNoType d (meaning.«Type» ty) = ⊥
+IsNoType d _ = Unit {0}
 
-pub data AreMeant (t : Text) (structs : List Struct) : List Declaration → List Meaning → Type 0 where
-  none_meant : AreMeant t structs [] []
-  one_meant : {d : Declaration} {m : Meaning} {ds : List Declaration} {ms : List Meaning} → IsMeant t structs d m → AreMeant t structs ds ms
-      → AreMeant t structs (d ∷ ds) (m ∷ ms)
+pub data AreMeantBy (Is : Declaration → Meaning → Type 0) : List Declaration → List Meaning → Type 0 where
+  none_meant : AreMeantBy Is [] []
+  one_meant : {d : Declaration} {m : Meaning} {ds : List Declaration} {ms : List Meaning} → Is d m → AreMeantBy Is ds ms → AreMeantBy Is (d ∷ ds) (m ∷ ms)
+
+abbrev pub AreMeant : Text → Environment → List Struct → List Declaration → List Meaning → Type 0
+AreMeant t env structs = AreMeantBy (IsMeant t env structs)
 
 abbrev pub AreAllMeant : List Declaration → Reader → Type 0
-AreAllMeant ds r = AreMeant r.scope.text r.structs.items ds r.scope.meanings.items
+AreAllMeant ds r = AreMeant r.scope.text (environment r.scope r.types) r.structs.items ds r.scope.meanings.items
+
+-- no declaration means a type yet
+abbrev pub AreNoTypes : List Declaration → Reader → Type 0
+AreNoTypes ds r = AreMeantBy IsNoType ds r.scope.meanings.items
+
+-- the declaration with this index stands for the type that it means
+abbrev pub IsMeantAt : Scope → Types → ℕ → Declaration → Type 0
+IsMeantAt s types index d = (ty : MeasuredType) → slice_get s.meanings.items index ≡ Some (meaning.«Type» ty) → IsTypeBy s.text (environment s types) d ty
 
 -- the declarations go on to mean that
 pub record Means (ds : List Declaration) (old new : Reader) : Type 0 where

@@ -22,16 +22,20 @@ returns-in-Ok-clause-declared c =
     let found = c.in-Ok.ensures in
     let ds = c.deref.result.now in
     let names = found.named (λ name index is. absurd (let no : None ≡ Some index = sym (c.new.ensures.none name) ∙ is in cc)) in
-    let meant = subst (λ (t : Text). AreMeant t new.structs.items ds new.scope.meanings.items) (keeps.keeps.text ∙ text) found.meant in
+    let there = keeps.keeps.text ∙ text in
+    let meant = subst (λ (t : Text). AreMeant t env new.structs.items ds new.scope.meanings.items) there found.meant in
+    let none = c.none-others.ensures in
+    let m = c.finished.ensures in
     record {
-      named = env.named;
+      env = env;
+      elements = ap (λ es. es.items) (sym m.elements);
       sites = are.sites;
       stand = are.there;
-      types =
-          λ name ty is. subst (λ ss. IsTypeNamed t ss.items are.sites name ty) (sym c.finished.ensures.structs) (type_named t new.structs.items ds are.sites new.scope are.are meant names name ty is);
-      structs =
-          subst (λ es. All (IsDeclared t (record { named = env.named; elements = es.items }) whole) c.finished.result.structs.items) (sym c.finished.ensures.elements)
-          (subst (λ ss. All (IsDeclared t env whole) ss.items) (sym c.finished.ensures.structs) (subst (λ (t : Text). All (IsDeclared t env whole) new.structs.items) text all));
+      types = λ name ty is. subst (λ ss. IsTypeNamed t env ss.items are.sites name ty) (sym m.structs) (type_named t env new.structs.items ds are.sites new.scope are.are meant names name ty is);
+      structs = subst (λ ss. All (IsDeclared t env whole) ss.items) (sym m.structs) (subst (λ (t : Text). All (IsDeclared t env whole) new.structs.items) text all);
+      others =
+          has_declared t new.scope new.types whole ds new.faults.items c.none-others.result c.read.new.others c.finished.result are there found.others none.variables none.overrides none.entry_points
+          none.aliases (ap (λ v. v.items) m.faults) m.variables m.overrides m.entry_points m.aliases;
     }
 
 pub returns-in-Ok-clause-told : goal.returns-in-Ok-clause-told
@@ -46,13 +50,3 @@ returns-in-Ok-clause-told c =
     subst (λ v. AreAllTold t whole c.finished.result.structs.items c.finished.result.in_text.items (map (λ name. name.now) v.items)) (sym c.finished.ensures.left_out)
     (subst (λ v. AreAllTold t whole c.finished.result.structs.items v.items (names_of l)) (sym c.finished.ensures.in_text)
     (subst (λ v. AreAllTold t whole v.items l.in_text.items (names_of l)) (sym c.finished.ensures.structs) (all_told t ss whole ds l.in_text.items (names_of l) are listed)))
-
-pub returns-in-Ok-clause-others : goal.returns-in-Ok-clause-others
-returns-in-Ok-clause-others c =
-    let t = c.args.text in
-    let whole = c.args.grammar.now.events.items in
-    let none = c.none-others.ensures in
-    let all = c.finished.ensures in
-    has_declared t c.read.new.self.scope.text whole c.deref.result.now c.read.new.self.faults.items c.none-others.result c.read.new.others c.finished.result
-    (subst (AreAll t whole) (sym c.deref.ensures.value) c.in_ok-declarations.ensures) (c.in-Ok.ensures.keeps.keeps.text ∙ (c.in-Ok.ensures.keeps.same.2 ∙ c.new.ensures.text)) c.in-Ok.ensures.others none.variables none.overrides
-    none.entry_points none.aliases (ap (λ v. v.items) all.faults) all.variables all.overrides all.entry_points all.aliases

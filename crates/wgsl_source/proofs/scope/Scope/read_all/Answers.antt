@@ -1,4 +1,4 @@
-use Rattle.std.proofs.Common.{refl, sym, ◌∙◌}
+use Rattle.std.proofs.Common.{sym, ◌∙◌}
 use Rattle.wgsl_source.proofs.Common.{at_drop_all, behind_events, item_names}
 use Rattle.wgsl_source.proofs.Items.{one_further}
 use Rattle.wgsl_source.proofs.Members.{grows_further}

@@ -1,6 +1,0 @@
-use Rattle.wgsl_source.proofs.Common.{SameStructs, AreAllMeant}
-use Rattle.wgsl_source.specs.internal.Read.{AreNamed}
-use Rattle.wgsl_source.proofs.module.Reader.name_all.Given as goal
-
-abbrev pub invariant-loop-index : goal.invariant-loop-index
-invariant-loop-index l = SameStructs l.fn.self l.self × AreAllMeant l.fn.declarations l.self × (AreNamed l.fn.declarations l.fn.self.scope → AreNamed l.fn.declarations l.self.scope)
