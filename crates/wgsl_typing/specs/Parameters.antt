@@ -1,5 +1,5 @@
 -- What the parameters of a template list are that are no types: enumerants and counts (WGSL, "Template Lists", "Predeclared Enumerants").
-use Rattle.std.specs.Prelude.{ℕ, List, [], ◌∷◌, Option, Some, None}
+use Rattle.std.specs.Prelude.{ℕ, List, [], ◌∷◌, Option, Some, None, option_map}
 use Rattle.wgsl_syntax.specs.declared.address.AccessMode.{AccessMode}
 use Rattle.wgsl_syntax.specs.declared.address.AccessMode.TheVariants as accesses
 use Rattle.wgsl_syntax.specs.declared.address.AddressSpace.{AddressSpace}
@@ -65,6 +65,17 @@ format_called name = then (format_named name) unless_r64
 
 abbrev pub format_of : Context → Item → Option TexelFormat
 format_of c i = then (enumerant c i) format_called
+
+-- the access mode at the end of a list, where one may stand
+abbrev pub access_listed : Context → List Item → Option (Option AccessMode)
+access_listed c [] = Some None
+access_listed c (a ∷ []) = option_map Some (access_of c a)
+access_listed c items = None
+
+-- `<private>`, `<storage, read_write>` of a variable
+abbrev pub space_listed : Context → List Item → Option (AddressSpace × Option AccessMode)
+space_listed c [] = None
+space_listed c (s ∷ rest) = then (space_of c s) (λ space. option_map (λ access. (space, access)) (access_listed c rest))
 
 -- Counts
 

@@ -1,7 +1,7 @@
 -- What a name stands for with a template list (WGSL, "Template Lists", "Types").
 use Rattle.std.specs.Prelude.{◌≡◌, ℕ, List, [], ◌∷◌, Bool, true, false, ◌&&◌, Option, Some, None, cond, is_some, not, option_map, reverse, unwrap_or}
 use Rattle.wgsl_core.specs.View.{view}
-use Rattle.wgsl_rules.specs.types.Types.{WgslType, array, atomic, mat, pointer, scalar, vec}
+use Rattle.wgsl_rules.specs.types.Types.{WgslType, array, atomic, mat, pointer, scalar, texture, vec}
 use Rattle.wgsl_syntax.specs.Address.{default_access}
 use Rattle.wgsl_syntax.specs.declared.address.AccessMode.{AccessMode}
 use Rattle.wgsl_syntax.specs.declared.address.AddressSpace.{AddressSpace}
@@ -9,6 +9,10 @@ use Rattle.wgsl_syntax.specs.declared.address.AddressSpace.TheVariants.{Workgrou
 use Rattle.wgsl_syntax.specs.declared.scalar.Scalar.TheVariants.{Bool as TheBool, I32, U32, F32, F16}
 use Rattle.wgsl_syntax.specs.declared.texture.SampledType.{SampledType}
 use Rattle.wgsl_syntax.specs.declared.texture.SampledType.TheVariants as sampled
+use Rattle.wgsl_syntax.specs.TextureName.{parameter_kind, texture_with}
+use Rattle.wgsl_syntax.specs.declared.texture_name.TextureName.{TextureName}
+use Rattle.wgsl_syntax.specs.declared.texture_name.TextureParameterKind.{TextureParameterKind}
+use Rattle.wgsl_syntax.specs.declared.texture_name.TextureParameterKind.TheVariants as kinds
 use Rattle.wgsl_syntax.specs.declared.texture_name.TextureParameters.{TextureParameters}
 use Rattle.wgsl_syntax.specs.declared.texture_name.TextureParameters.TheVariants as parameters
 use Rattle.wgsl_constants.specs.Literals.{then}
@@ -22,7 +26,7 @@ use Rattle.wgsl_standard.specs.Callees.{a_function, overloads_listed}
 use Rattle.wgsl_typing.specs.Counts.{is_counted_by_override}
 use Rattle.wgsl_typing.specs.Declarations.{is_refused}
 use Rattle.wgsl_typing.specs.Names.{Context, meaning_at, word_in}
-use Rattle.wgsl_typing.specs.Parameters.{IsCount}
+use Rattle.wgsl_typing.specs.Parameters.{IsCount, access_listed, access_of, format_of, space_listed, space_of}
 use Rattle.wgsl_typing.specs.Predeclared.{type_called}
 use Rattle.wgsl_typing.specs.Stacks.{Stack}
 use Rattle.wgsl_typing.specs.Types.{type_of_item}
@@ -124,20 +128,38 @@ IsArrayListed c (x ∷ []) t = IsLimited (then (type_of_item c x) (array_of None
 IsArrayListed c (x ∷ n ∷ []) t = IsCounted c (type_of_item c x) n t
 IsArrayListed c items t = t ≡ None
 
--- Of a pointer with its list nothing is said here.
+-- `ptr<function, f32>`, `ptr<storage, f32, read_write>`
+abbrev pub pointer_listed : Context → List Item → Option WgslType
+pointer_listed c (s ∷ x ∷ rest) =
+    then (space_of c s) (λ space. then (type_of_item c x) (λ t. then (access_listed c rest) (λ access. pointer_of space access t)))
+pointer_listed c items = None
+
 abbrev pub IsAround : Context → LayerName → List Item → Option WgslType → Type 0
 IsAround c layers.Array items t = IsArrayListed c items t
-IsAround c layers.Pointer items t = Unit {0}
+IsAround c layers.Pointer items t = IsLimited (pointer_listed c items) t
 IsAround c layer items t = t ≡ around_listed c layer items
 
 -- the parameters of `texture_2d<f32>`
 abbrev pub sampled_listed : Context → List Item → Option TextureParameters
 sampled_listed c items = option_map parameters.Sampled (then (only_type c items) sampled_of)
 
--- Of a texture with its list nothing is said here.
+-- those of `texture_storage_2d<rgba8unorm, write>`
+abbrev pub stored_listed : Context → List Item → Option TextureParameters
+stored_listed c (f ∷ a ∷ []) = then (format_of c f) (λ format. option_map (parameters.Storage format) (access_of c a))
+stored_listed c items = None
+
+abbrev pub parameters_listed : Context → TextureParameterKind → List Item → Option TextureParameters
+parameters_listed c kinds.Sampled items = sampled_listed c items
+parameters_listed c kinds.Storage items = stored_listed c items
+parameters_listed c kinds.None items = None
+
+-- `texture_2d<f32>`, `texture_storage_2d<rgba8unorm, write>`
+abbrev pub texture_listed : Context → TextureName → List Item → Option WgslType
+texture_listed c name items = option_map texture (then (parameters_listed c (parameter_kind name) items) (texture_with name))
+
 abbrev pub IsTypeListed : Context → PredeclaredType → List Item → Option WgslType → Type 0
 IsTypeListed c (p.Layer layer) items t = IsAround c layer items t
-IsTypeListed c (p.Texture name) items t = Unit {0}
+IsTypeListed c (p.Texture name) items t = t ≡ texture_listed c name items
 IsTypeListed c other items t = t ≡ None
 
 -- the type in the list of a function that takes one: `bitcast<f32>`
@@ -172,10 +194,10 @@ abbrev pub below_list : List Item → List Item
 below_list [] = []
 below_list (i ∷ rest) = cond (is_open i) rest (below_list rest)
 
--- A name with its list, or the list of a variable, of which nothing is said here.
+-- a name with its list, or the list of a variable
 abbrev pub IsClosed : ℕ → Context → List Item → List Item → List Item → Type 0
 IsClosed at c listed (items.Name count ∷ rest) is = (l : Listed) × IsListed c count listed l × (is ≡ items.Listed (up_to (last_of count) (last_of at)) l ∷ rest)
-IsClosed at c listed rest is = (space : Option (AddressSpace × Option AccessMode)) × (is ≡ items.Space space ∷ rest)
+IsClosed at c listed rest is = is ≡ items.Space (space_listed c listed) ∷ rest
 
 -- `>`: which expressions of the list are used isn't said here.
 abbrev pub Template : ℕ → Stack → Stack → Type 0

@@ -3,9 +3,10 @@ ghost use Rattle.std.specs.Prelude.{◌≡◌, ◌∷◌, IfOk, Some, option_map
 ghost use Rattle.wgsl_constants.specs.Literals.{then};
 ghost use Rattle.wgsl_core.specs.View.{view};
 ghost use Rattle.wgsl_typing.specs.Names.{context, word_in};
+ghost use Rattle.wgsl_typing.specs.Parameters.{space_listed};
 ghost use Rattle.wgsl_typing.specs.Predeclared.{type_called};
 ghost use Rattle.wgsl_typing.specs.Stacks.{KeepsItems, stack, with_items};
-ghost use Rattle.wgsl_typing.specs.Templates.{IsAround, IsClosed, IsLimited, IsListed, IsPredeclaredListed, IsTypeListed, Template, atomic_of, below_list, in_list, is_component, is_float, is_integer, is_open, matrix_of, only_type, pointer_of, template_of, vector_of};
+ghost use Rattle.wgsl_typing.specs.Templates.{IsAround, IsClosed, IsLimited, IsListed, IsPredeclaredListed, IsTypeListed, Template, atomic_of, below_list, in_list, is_component, is_float, is_integer, is_open, matrix_of, only_type, pointer_listed, pointer_of, template_of, vector_of};
 
 use crate::count::may_be_counted;
 use crate::expressions::Expressions;
@@ -162,23 +163,15 @@ impl<'t> Expressions<'t> {
         count: usize,
         list: &mut Vec<Item>,
     ) -> Result<Option<(AddressSpace, Option<AccessMode>)>, AllocError>
+        ensures answer { IfOk result (λ space. space ≡ space_listed (context self.old) (reverse list.old.items)) }
         ensures stack { stack self.new ≡ stack self.old }
     {
-        let length = list.len();
         let Some(space) = self.next_space(list)? else {
             return Ok(None);
         };
-        match length {
-            0 | 1 => Ok(Some((space, None))),
-            2 => match self.next_access(list)? {
-                Some(access) => Ok(Some((space, Some(access)))),
-                None => Ok(None),
-            },
-            _ => {
-                let message = "a variable has a space and an access mode";
-                self.tell(Rule::Template, Place::last_of(count), message)?;
-                Ok(None)
-            }
+        match self.last_access(count, list)? {
+            Some(access) => Ok(Some((space, access))),
+            None => Ok(None),
         }
     }
 
@@ -267,6 +260,7 @@ impl<'t> Expressions<'t> {
     }
 
     fn pointer(&mut self, named: usize, list: &mut Vec<Item>) -> Result<Option<Type>, AllocError>
+        ensures answer { IfOk result (λ ty. IsLimited (pointer_listed (context self.old) (reverse list.old.items)) (option_map view ty)) }
         ensures stack { IfOk result (λ ty. KeepsItems (stack self.old) (stack self.new)) }
     {
         if !self.has_length(named, list, 2, 3)? {
@@ -276,12 +270,8 @@ impl<'t> Expressions<'t> {
             return Ok(None);
         };
         let of = self.next_type(list)?;
-        let access = match list.is_empty() {
-            false => match self.next_access(list)? {
-                Some(access) => Some(access),
-                None => return Ok(None),
-            },
-            true => None,
+        let Some(access) = self.last_access(named, list)? else {
+            return Ok(None);
         };
         match of {
             Some(of) => self.pointer_to(named, space, access, of),

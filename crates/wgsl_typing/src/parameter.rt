@@ -2,7 +2,7 @@
 ghost use Rattle.std.specs.Prelude.{◌≡◌, [], ◌∷◌, ◌&&◌, IfOk, IfSome, None, length, nat_le, option_map, reverse};
 ghost use Rattle.wgsl_core.specs.View.{view};
 ghost use Rattle.wgsl_typing.specs.Names.{context, word_in};
-ghost use Rattle.wgsl_typing.specs.Parameters.{access_called, access_of, enumerant, of_first, space_called, space_of};
+ghost use Rattle.wgsl_typing.specs.Parameters.{access_called, access_listed, access_of, enumerant, of_first, space_called, space_of};
 ghost use Rattle.wgsl_typing.specs.Stacks.{IsOperand, KeepsItems, below, stack, with_parts};
 ghost use Rattle.wgsl_typing.specs.Templates.{only_type};
 ghost use Rattle.wgsl_typing.specs.Types.{no_type_on, type_of_item};
@@ -162,6 +162,29 @@ impl<'t> Expressions<'t> {
             self.tell_among(Rule::Template, count, "is no access mode", ACCESS_MODES)?;
         }
         Ok(access)
+    }
+
+    /// Takes the access mode at the end of a list, if there is one; None if something else is there, which is told.
+    pub fn last_access(
+        &mut self,
+        count: usize,
+        list: &mut Vec<Item>,
+    ) -> Result<Option<Option<AccessMode>>, AllocError>
+        ensures answer { IfOk result (λ access. access ≡ access_listed (context self.old) (reverse list.old.items)) }
+        ensures stack { stack self.new ≡ stack self.old }
+    {
+        match list.len() {
+            0 => Ok(Some(None)),
+            1 => match self.next_access(list)? {
+                Some(access) => Ok(Some(Some(access))),
+                None => Ok(None),
+            },
+            _ => {
+                let message = "a variable has a space and an access mode";
+                self.tell(Rule::Template, Place::last_of(count), message)?;
+                Ok(None)
+            }
+        }
     }
 }
 

@@ -4,7 +4,7 @@ ghost use Rattle.wgsl_core.specs.View.{view};
 ghost use Rattle.wgsl_typing.specs.Names.{context};
 ghost use Rattle.wgsl_typing.specs.Parameters.{format_called, format_of, of_first};
 ghost use Rattle.wgsl_typing.specs.Stacks.{KeepsItems, below, stack};
-ghost use Rattle.wgsl_typing.specs.Templates.{sampled_listed, sampled_of};
+ghost use Rattle.wgsl_typing.specs.Templates.{parameters_listed, sampled_listed, sampled_of, stored_listed, texture_listed};
 
 use crate::expressions::Expressions;
 use crate::item::Item;
@@ -28,6 +28,7 @@ impl<'t> Expressions<'t> {
         texture: TextureName,
         list: &mut Vec<Item>,
     ) -> Result<Option<Type>, AllocError>
+        ensures answer { IfOk result (λ ty. option_map view ty ≡ texture_listed (context self.old) texture (reverse list.old.items)) }
         ensures stack { IfOk result (λ ty. KeepsItems (stack self.old) (stack self.new)) }
     {
         match self.texture_parameters(named, texture.parameter_kind(), list)? {
@@ -42,6 +43,7 @@ impl<'t> Expressions<'t> {
         kind: TextureParameterKind,
         list: &mut Vec<Item>,
     ) -> Result<Option<TextureParameters>, AllocError>
+        ensures answer { IfOk result (λ p. p ≡ parameters_listed (context self.old) kind (reverse list.old.items)) }
         ensures stack { IfOk result (λ p. KeepsItems (stack self.old) (stack self.new)) }
     {
         match kind {
@@ -73,6 +75,7 @@ impl<'t> Expressions<'t> {
         named: usize,
         list: &mut Vec<Item>,
     ) -> Result<Option<TextureParameters>, AllocError>
+        ensures answer { IfOk result (λ p. p ≡ stored_listed (context self.old) (reverse list.old.items)) }
         ensures stack { stack self.new ≡ stack self.old }
     {
         if !self.has_length(named, list, 2, 2)? {
