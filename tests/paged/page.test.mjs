@@ -238,13 +238,23 @@ test("each fault is marked where it stands, and in the list with its notes, whic
 });
 
 test("what is told at the pointer stands above it where there is no room below", async () => {
-  const page = await opened();
-  await page.look({ width: 1280, height: 200, dark: false });
-  await page.run(fill("fn f() { let a = true+1; }"));
-  await mouse(page, "mouseMoved", 22);
+  const page = await opened(), text = `${"\n".repeat(7)}fn f() { let a = true+1; }`, index = text.indexOf("1;");
+  await page.look({ width: 1280, height: 300, dark: false });
+  await page.run(fill(text));
+  await mouse(page, "mouseMoved", index);
   await settle(page);
   assert.equal(await page.run("tip.hidden ? null : tip.textContent"), "1: AbstractInt, const expression");
-  assert.ok((await page.run("tip.getBoundingClientRect().bottom")) < (await middleOf(page, 22)).y);
+  assert.ok((await page.run("tip.getBoundingClientRect().bottom")) < (await middleOf(page, index)).y);
+});
+
+test("in a low window nothing of the editor is cut off, and the list of what is wrong scrolls", async () => {
+  const page = await opened();
+  await page.run(fill("struct S { a: x }\n".repeat(30)));
+  for (const height of [200, 440, 460, 600]) {
+    await page.look({ width: 1280, height, dark: false });
+    assert.equal(await page.run("(({ scrollHeight, clientHeight }) => scrollHeight - clientHeight)(document.querySelector('.source'))"), 0, `${height}`);
+    assert.ok((await page.run("problems.clientHeight")) >= 64, `${height}`);
+  }
 });
 
 test("the types of lets stand behind their lines, and can be switched off; faults and they move with the text before it is checked", async () => {
