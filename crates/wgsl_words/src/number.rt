@@ -50,7 +50,17 @@ pub fn count(word: &str) -> Option<Option<usize>>
     if word == "*" {
         return Some(None);
     }
-    Some(Some(long(word)? as usize))
+    Some(Some(size(word)?))
+}
+
+/// A number of elements. Where `usize` has 32 bits, larger ones can't be read.
+fn size(word: &str) -> Option<usize>
+    ensures { result ≡ spec.long word.now }
+{
+    if begins_with_plus(word) {
+        return None;
+    }
+    word.parse::<usize>().ok()
 }
 
 #[tactic(auto, unfolding(crate::specs::Names::attribute))]
