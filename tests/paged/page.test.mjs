@@ -263,7 +263,7 @@ test("the types of lets stand behind their lines, and can be switched off; fault
   const { x, y } = await middleOf(page, text.indexOf("1u;") + 2), box = await page.run(`document.querySelector("#hints span").getBoundingClientRect().toJSON()`);
   assert.ok(x < box.left && box.left < x + 40 && box.top < y && y < box.bottom, JSON.stringify(box));
   for (const count of [0, 2]) assert.equal(await page.run(`types.click(), document.querySelectorAll("#hints div").length`), count);
-  for (const [from, to, hints, marks] of [["fn", "\n\nfn", [4, 5], ["5.75rem+"]], ["1u;", "1u\n;", [2, 4], ["4.5rem+"]], ["+", "-", [2, 3], []]]) {
+  for (const [from, to, hints, marks] of [["fn", "\n\nfn", [4, 5], ["5.75rem+"]], ["1u;", "1u\n;", [2, 4], ["4.5rem+"]], ["+ true", "+1 true", [2, 3], ["3.25rem+"]], ["+", "-", [2, 3], []]]) {
     await page.run(fill(text));
     assert.deepEqual(await page.run(`new Promise((done) => { source.value = ${JSON.stringify(text.replace(from, to))}; source.dispatchEvent(new Event("input")); requestAnimationFrame(() =>
       done([document.documentElement.dataset.checked ?? null, ${HINTS}, [...document.querySelectorAll("#marks div")].map(({ style, lastChild }) => style.top + lastChild.textContent)])) })`), [null, hints.map((line) => [line, ": u32"]), marks]);
