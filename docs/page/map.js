@@ -106,7 +106,7 @@ export class ByteMap {
 
   #tellPadding() {
     const padding = paddingOf(this.#struct), whole = this.#struct.size.toLocaleString("en");
-    this.info.replaceChildren(padding === 0 ? "No padding. " : `${bytes(padding)} of ${whole} ${padding === 1 ? "is" : "are"} padding. `,
+    this.info.replaceChildren(padding === 0 ? "No padding. " : `${bytes(padding)} of ${whole} are padding. `,
       h("span", { className: "hint" }, "Point at a part, or move with the arrow keys."));
   }
 

@@ -45,6 +45,7 @@ export async function openBrowser(program = process.env.BROWSER ?? "chromium", m
       await page.call("Emulation.setEmulatedMedia", { features: [{ name: "prefers-color-scheme", value: dark ? "dark" : "light" }] });
     };
     await page.look({ width, height, dark });
+    await page.call("Emulation.setLocaleOverride", { locale: "de-DE" }); // in which numbers are written otherwise than in the page's English
     page.run = async (expression) => {
       const { result, exceptionDetails } = await page.call("Runtime.evaluate", { expression, awaitPromise: true, returnByValue: true, userGesture: true });
       if (exceptionDetails) throw new Error(exceptionDetails.exception?.description ?? exceptionDetails.text);
