@@ -143,6 +143,7 @@ pub fn discard(x: &Operand) -> Result<Type, Refusal> {
 /// assert_eq!(refused, Err(Refusal::WriteRefType(Type::I32, Type::F32)));
 /// # Ok::<(), wgsl_types_proved::ty::SpellingError>(())
 /// ```
+#[inline(always)]
 pub fn assign(x: &Operand, y: &Operand) -> Result<Type, Refusal> {
     Ok(copied(proved::assign::assign(&x.given(), &y.proved())?))
 }
