@@ -307,6 +307,18 @@ fn edit(random: &mut Random, text: &str) -> (Range<usize>, String) {
     }
 }
 
+#[test]
+fn a_change_is_of_what_those_before_it_left() {
+    let mut client = Client::of_bytes();
+    client.open("a", "const a = 1;\n");
+    let text = "const b = 2;\nconst a = 1;\n";
+    let changes = [(range("", &(0..0)), "const b = 2;\n"), (range(text, &(23..24)), "b")];
+    client.change_all("a", 2, changes.map(|(range, text)| (Some(range), text)));
+    let place = opened("a").with("position", Some(at(text, 23)));
+    assert_eq!(client.ask("definition", place)["range"], range(text, &(6..7)));
+    assert_eq!(client.end(), Some(0));
+}
+
 /// After any edits, told as texts or as ranges, each answer is that of a server that has seen nothing else.
 #[test]
 fn answers_depend_on_the_text_alone() {

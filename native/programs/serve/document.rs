@@ -40,16 +40,19 @@ impl Document {
 
     /// The document after changes: each a text in place of a range of what is there, or of all. None if one can't be read.
     pub fn changed(&self, changes: &[Json], version: Json) -> Option<Document> {
-        let with = |text, version| Document::new(&self.uri, text, version, self.encoding);
-        let mut text = self.written.text.clone();
+        let with = |text| Document::new(&self.uri, text, version.clone(), self.encoding);
+        let mut last = None;
         for change in changes {
+            let before = last.as_ref().unwrap_or(self);
+            let mut text = before.written.text.clone();
             let bytes = match &change["range"] {
                 Json::Null => 0..text.len(),
-                range => with(text.clone(), Json::Null).bytes(range)?,
+                range => before.bytes(range)?,
             };
             text.replace_range(bytes, change["text"].as_text()?);
+            last = Some(with(text));
         }
-        Some(with(text, version))
+        last.or_else(|| Some(with(self.written.text.clone())))
     }
 
     pub fn is_readable(&self) -> bool {

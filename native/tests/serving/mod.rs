@@ -82,10 +82,20 @@ impl Client {
 
     /// Tells that a document has another text, in place of a range of its own if there is one.
     pub fn change(&mut self, uri: &str, version: usize, range: Option<Json>, text: &str) {
-        let change = object! { "text": text }.with("range", range);
+        self.change_all(uri, version, [(range, text)]);
+    }
+
+    /// Tells several such changes at once, each of what those before it left.
+    pub fn change_all<const N: usize>(
+        &mut self,
+        uri: &str,
+        version: usize,
+        changes: [(Option<Json>, &str); N],
+    ) {
         let document = object! { "uri": uri, "version": version };
-        let changes = Json::List(vec![change]);
-        let params = object! { "textDocument": document, "contentChanges": changes };
+        let changes = changes.map(|(range, text)| object! { "text": text }.with("range", range));
+        let params =
+            object! { "textDocument": document, "contentChanges": Json::List(changes.into()) };
         self.tell("textDocument/didChange", params);
     }
 
