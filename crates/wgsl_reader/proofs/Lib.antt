@@ -8,7 +8,6 @@ pub mod Found
 pub mod Rows
 pub mod OneOutcome
 pub mod Passed
-pub mod Prefixes
 pub mod SomeOutcome
 pub mod Steps
 pub mod Tokens

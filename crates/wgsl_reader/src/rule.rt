@@ -30,6 +30,8 @@ pub enum Rule {
     Expression,
     /// What may stand behind a unary expression: `+ b < c`.
     Operators,
+    /// What may stand behind a sum: `< b && c`.
+    AfterSum,
     /// `& b & c`
     Ands,
     /// `| b | c`

@@ -69,9 +69,10 @@ pub static WORDS: &[(u8, &[(&str, Kind)])] = words! {
             "static_cast" "std" "subroutine" "super";
     }
     b't' {
+        Reserved "type";
         True "true";
-        Reserved "target" "template" "this" "thread_local" "throw" "trait" "try" "type" "typedef"
-            "typeid" "typename" "typeof";
+        Reserved "target" "template" "this" "thread_local" "throw" "trait" "try" "typedef" "typeid"
+            "typename" "typeof";
     }
     b'u' { Reserved "union" "unless" "unorm" "unsafe" "unsized" "use" "using"; }
     b'v' { Var "var"; Reserved "varying" "virtual" "volatile"; }

@@ -63,12 +63,16 @@ pub static EXPRESSIONS: &[(Rule, &[Line])] = grammar! {
     Expression { _ => [(Unary) (Operators)] }
     Operators {
         Comma | CloseRound | CloseTemplate | End | Semicolon => []
-        Star | Slash | Percent => [(Product) (Sum) (Comparison) (Logic)]
-        Plus | Minus => [(Sum) (Comparison) (Logic)]
+        Plus | Minus => [(Sum) (AfterSum)]
+        Star | Slash | Percent => [(Product) (Sum) (AfterSum)]
         And => [(Ands)]
         Or => [(Ors)]
         Xor => [(Xors)]
-        _ => [(Shift) (Comparison) (Logic)]
+        _ => [(Shift) (AfterSum)]
+    }
+    AfterSum {
+        End | Comma | CloseRound | CloseTemplate | Semicolon => []
+        _ => [(Comparison) (Logic)]
     }
     Ands {
         And => [And {Operator} (Unary) {Binary} (Ands)]

@@ -9,12 +9,12 @@ use crate::rule::Rule;
 
 pub static REQUESTS: &[(Rule, &[Line])] = grammar! {
     Request {
+        TypeOf => [TypeOf (Expression) (SemicolonIfAny)]
         Struct => [(Headed) {Struct} (Request)]
         Fn => [Fn Name {Heading} OpenRound (Parameters) CloseRound (Result) (BlockIfAny) {Function} (Request)]
         _ => [(Asked) (SemicolonIfAny)]
     }
     Asked {
-        TypeOf => [TypeOf (Expression)]
         Load => [Load {Keyword} (Expression) {Initialized}]
         Resolve => [Resolve (Expression) {Resolve}]
         Why => [Why (Expression) {Why}]
