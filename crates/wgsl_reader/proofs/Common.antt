@@ -4,8 +4,8 @@ pub use Rattle.std.proofs.lemmas.Grind.{common_steps}
 pub use Rattle.std.proofs.lemmas.List.{drop-map, drop-take, drop_all, length-map, take-map}
 pub use Rattle.wgsl_reader.specs.Expected.{MayStand}
 pub use Rattle.wgsl_reader.specs.Frames.{below}
-pub use Rattle.wgsl_reader.specs.Grammar.{Line, lines_of, production, row_of, rules}
-unfoldable pub use Rattle.wgsl_reader.specs.Grammar.{expressions, modules, requests, statements}
+pub use Rattle.wgsl_reader.specs.Grammar.{Line, lines_of, production, Rows, rows_of, rules}
+unfoldable pub use Rattle.wgsl_reader.specs.Grammar.{tables}
 pub use Rattle.wgsl_reader.specs.Lists.{begun, ended, found_from, is, joined, joined_by, of_kind, passed, Search, step, step_at, with_lists}
 pub use Rattle.wgsl_reader.specs.Modules.{declaration_len, ReadsFrom, ReadsModule, rest_len}
 pub use Rattle.wgsl_reader.specs.Reading.{kind_of, next_kind, Outcome, outcome_of, ReadAt, with_events}

@@ -1,11 +1,11 @@
 -- Each rule has lines: the tables have all variants.
 use Rattle.std.proofs.Common.{◌≡◌, ◌&&◌, ℕ, ◌<◌, Bool, true, false, List, [], ◌∷◌, Option, Some, None, length, nat_lt, zero, suc, refl, subst, arith, IsTrue, if◌then◌else◌, is_some, ltb-false, ltb-true, eqb}
-use Rattle.wgsl_reader.proofs.Common.{and_parts, rowss, tag_of, the_type as rule_type, Line, expressions, lines_of, modules, requests, rules, statements, Rule}
+use Rattle.wgsl_reader.proofs.Common.{and_parts, rowss, tag_of, the_type as rule_type, Line, Rows, lines_of, rules, tables, Rule}
 use denote.Enum.Enum.{tag_below}
 
 -- the lines of the rule that has this number among the variants
 
-abbrev find_numbered : ℕ → List (Rule × List Line) → Option (List Line)
+abbrev find_numbered : ℕ → Rows → Option (List Line)
 find_numbered n [] = None
 find_numbered n (row ∷ rows) = if eqb n (tag_of rule_type row.0) then Some row.1 else find_numbered n rows
 
@@ -25,7 +25,7 @@ below n (suc m) lt h = turn (nat_lt n m) refl (λ less. below n m less (and_part
     turn false e deeper = let same : m ≡ n = omega (arith, lt, ltb-false n m e) in subst (λ n. IsTrue (numbered n)) same (and_parts (numbered m) (all_below m) h).0
 
 all_numbered : IsTrue (all_below (length (rowss rule_type.parts)))
-unfolding expressions statements requests modules
+unfolding tables
 all_numbered = refl
 
 pub has_lines : (rule : Rule) → IsTrue (is_some (lines_of rule))

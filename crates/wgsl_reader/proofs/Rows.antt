@@ -1,21 +1,13 @@
 -- The tables have the rules in the order of their enumeration: a row is found by its index.
-use Rattle.std.proofs.Common.{◌≡◌, ◌&&◌, ℕ, ◌-◌, ◌<◌, ◌≤◌, Bool, true, false, List, [], ◌∷◌, ◌++◌, Option, Some, None, Bor, get_or, length, map, option_map, slice_get, zero, suc, refl, sym, ap, ◌∙◌, arith, IsTrue, if◌then◌else◌, eqb-true, eqb}
-use Rattle.wgsl_reader.proofs.Common.{and_parts, eqb-false, length-map, tag_of, the_type as rule_type, Kind, Symbol, Rule}
-use Rattle.std.proofs.lemmas.Option.{slice_get-map, slice_get_past, slice_get-get_or}
-use Rattle.wgsl_reader.specs.Grammar.{Line, expressions, find, line_of, lines_of, modules, requests, row_of, rules, statements}
+use Rattle.std.proofs.Common.{◌≡◌, ◌&&◌, ℕ, ◌-◌, ◌<◌, ◌≤◌, Bool, true, false, List, [], ◌∷◌, ◌++◌, Option, Some, None, Bor, drop, drop-cons, get_or, length, map, nat_lt, option_map, slice_get, zero, suc, refl, sym, ap, ◌∙◌, arith, IsTrue, if◌then◌else◌, eqb-true, eqb, lt-ltb, ltb-false, ltb-true}
+use Rattle.std.proofs.lemmas.Option.{slice_get-map, slice_get-get_or}
+use Rattle.wgsl_reader.proofs.Common.{and_parts, drop_all, eqb-false, length-map, tag_of, the_type as rule_type, Kind, Line, Rows, Symbol, lines_of, rows_of, rules, tables, Rule}
+use Rattle.wgsl_reader.specs.Grammar.{all, find, line_of, row_of}
 
--- the lines of a row of a table as the code has it
-
-abbrev Row : Type 0
-Row = Rule × Bor (List (Option Kind × Bor (List Symbol)))
-
-pub row_there : (rows : List Row) (i : ℕ) (d : Row) → i < length rows → Some (map line_of (get_or rows i d).1.now) ≡ option_map (λ row. row.1) (slice_get (map row_of rows) i)
-row_there rows i d lt = sym (ap (option_map (λ row. row.1)) (slice_get-map row_of rows i ∙ ap (option_map row_of) (slice_get-get_or rows i d lt)))
-
-pub no_row : (rows : List Row) (i : ℕ) → length rows ≤ i → None ≡ option_map (λ row. row.1) (slice_get (map row_of rows) i)
-no_row rows i past = sym (ap (option_map (λ row. row.1)) (slice_get-map row_of rows i ∙ ap (option_map row_of) (slice_get_past rows i past)))
-
--- three lists, one behind the other
+-- the lines at an index in tables, one behind the other
+abbrev pub found_at : ℕ → List Rows → Option (List Line)
+found_at i [] = None
+found_at i (rows ∷ tables) = if nat_lt i (length rows) then option_map (λ row. row.1) (slice_get rows i) else found_at (i - length rows) tables
 
 within : {A : Type 0} (xs ys : List A) (i : ℕ) → i < length xs → slice_get (xs ++ ys) i ≡ slice_get xs i
 within [] ys i lt = absurd (omega (arith, lt))
@@ -27,39 +19,27 @@ behind [] ys i past = ap (slice_get ys) (omega arith)
 behind (x ∷ xs) ys zero past = absurd (omega (arith, past))
 behind (x ∷ xs) ys (suc i) past = behind xs ys i (omega (arith, past)) ∙ ap (slice_get ys) (omega arith)
 
-module _ {A B : Type 0} (f : A → B) (xs : List A) (rest : List B) (i : ℕ) where
-  pub in_front : i < length xs → slice_get (map f xs) i ≡ slice_get (map f xs ++ rest) i
-  in_front lt = sym (within (map f xs) rest i (omega (arith, lt, length-map xs f)))
-
-  pub in_rest : length xs ≤ i → slice_get rest (i - length xs) ≡ slice_get (map f xs ++ rest) i
-  in_rest le = sym (behind (map f xs) rest i (omega (arith, le, length-map xs f)) ∙ ap (λ n. slice_get rest (i - n)) (length-map xs f))
-
-module _ {A B : Type 0} (f : A → B) (xs ys zs : List A) (i : ℕ) where
-  pub in_first : i < length xs → slice_get (map f xs) i ≡ slice_get (map f xs ++ (map f ys ++ map f zs)) i
-  in_first lt = sym (within (map f xs) (map f ys ++ map f zs) i (omega (arith, lt, length-map xs f)))
-
-  past : length xs ≤ i → slice_get (map f xs ++ (map f ys ++ map f zs)) i ≡ slice_get (map f ys ++ map f zs) (i - length xs)
-  past le = behind (map f xs) (map f ys ++ map f zs) i (omega (arith, le, length-map xs f)) ∙ ap (λ n. slice_get (map f ys ++ map f zs) (i - n)) (length-map xs f)
-
-  pub in_second : length xs ≤ i → i - length xs < length ys → slice_get (map f ys) (i - length xs) ≡ slice_get (map f xs ++ (map f ys ++ map f zs)) i
-  in_second le lt = sym (past le ∙ within (map f ys) (map f zs) (i - length xs) (omega (arith, lt, length-map ys f)))
-
-  pub in_third : length xs ≤ i → length ys ≤ i - length xs → slice_get (map f zs) (i - length xs - length ys) ≡ slice_get (map f xs ++ (map f ys ++ map f zs)) i
-  in_third le more =
-      sym (past le ∙ (behind (map f ys) (map f zs) (i - length xs) (omega (arith, more, length-map ys f)) ∙ ap (λ n. slice_get (map f zs) (i - length xs - n)) (length-map ys f)))
+in_all : (i : ℕ) (all_rows : List Rows) → found_at i all_rows ≡ option_map (λ row. row.1) (slice_get (all all_rows) i)
+in_all i [] = refl
+in_all i (rows ∷ more) = turn (nat_lt i (length rows)) refl (in_all (i - length rows) more)
+  where
+    turn : (b : Bool) → nat_lt i (length rows) ≡ b → found_at (i - length rows) more ≡ option_map (λ row. row.1) (slice_get (all more) (i - length rows))
+        → (if b then option_map (λ row. row.1) (slice_get rows i) else found_at (i - length rows) more) ≡ option_map (λ row. row.1) (slice_get (rows ++ all more) i)
+    turn true e deeper = sym (ap (option_map (λ row. row.1)) (within rows (all more) i (ltb-true i (length rows) e)))
+    turn false e deeper = deeper ∙ sym (ap (option_map (λ row. row.1)) (behind rows (all more) i (omega (arith, ltb-false i (length rows) e))))
 
 -- the row of a rule
 
 -- the rules of these rows have this number among the variants and those behind it
-abbrev numbered_from : ℕ → List (Rule × List Line) → Bool
+abbrev numbered_from : ℕ → Rows → Bool
 numbered_from n [] = true
 numbered_from n (row ∷ rows) = eqb n (tag_of rule_type row.0) && numbered_from (suc n) rows
 
 rules_numbered : IsTrue (numbered_from 0 rules)
-unfolding expressions statements requests modules
+unfolding tables
 rules_numbered = refl
 
-found : (rule : Rule) (rows : List (Rule × List Line)) (n : ℕ) → n ≤ tag_of rule_type rule → IsTrue (numbered_from n rows)
+found : (rule : Rule) (rows : Rows) (n : ℕ) → n ≤ tag_of rule_type rule → IsTrue (numbered_from n rows)
     → find rule rows ≡ option_map (λ row. row.1) (slice_get rows (tag_of rule_type rule - n))
 found rule [] n le h = refl
 found rule (row ∷ rows) n le h = turn (eqb (tag_of rule_type rule) (tag_of rule_type row.0)) refl (λ more. found rule rows (suc n) more parts.1)
@@ -86,5 +66,23 @@ found rule (row ∷ rows) n le h = turn (eqb (tag_of rule_type rule) (tag_of rul
         let more : suc n ≤ tag_of rule_type rule = omega (arith, le, here, differ) in
         deeper more ∙ sym (ap (option_map (λ row. row.1)) (one_more more))
 
-pub row_found : (rule : Rule) → lines_of rule ≡ option_map (λ row. row.1) (slice_get rules (tag_of rule_type rule))
-row_found rule = found rule rules 0 (omega arith) rules_numbered ∙ ap (λ n. option_map (λ row. row.1) (slice_get rules n)) (omega arith)
+pub row_found : (rule : Rule) → lines_of rule ≡ found_at (tag_of rule_type rule) tables
+row_found rule = found rule rules 0 (omega arith) rules_numbered ∙ ap (λ n. option_map (λ row. row.1) (slice_get rules n)) (omega arith) ∙ sym (in_all (tag_of rule_type rule) tables)
+
+-- what the search for an index comes to
+
+abbrev Row : Type 0
+Row = Rule × Bor (List (Option Kind × Bor (List Symbol)))
+
+in_first : (rows : Bor (List Row)) (more : List Rows) (i : ℕ) (d : Row) → i < length rows.now → found_at i (rows_of rows ∷ more) ≡ Some (map line_of (get_or rows.now i d).1.now)
+in_first rows more i d lt =
+    rw (lt-ltb i (length (rows_of rows)) (omega (arith, lt, length-map rows.now row_of)))
+    (ap (option_map (λ row. row.1)) (slice_get-map row_of rows.now i ∙ ap (option_map row_of) (slice_get-get_or rows.now i d lt)))
+
+module _ (rule : Rule) (left : List (Bor (List Row))) (n i : ℕ) (same : found_at i (map rows_of (drop n left)) ≡ found_at (tag_of rule_type rule) tables) where
+  pub line_there : (d : Bor (List Row)) (e : Row) → n < length left → i < length (get_or left n d).now → Some (map line_of (get_or (get_or left n d).now i e).1.now) ≡ lines_of rule
+  line_there d e lt inside =
+      sym (ap (λ left. found_at i (map rows_of left)) (drop-cons left n d lt) ∙ in_first (get_or left n d) (map rows_of (drop (suc n) left)) i e inside) ∙ (same ∙ sym (row_found rule))
+
+  pub no_line : length left ≤ n → None ≡ lines_of rule
+  no_line past = ap (λ left. found_at i (map rows_of left)) (sym (drop_all n left past)) ∙ (same ∙ sym (row_found rule))

@@ -2,7 +2,7 @@
 use Rattle.std.proofs.Common.{◌≡◌, ◌&&◌, ◌||◌, ℕ, ◌+◌, ◌*◌, ◌<◌, ◌≤◌, Bool, true, false, List, [], ◌∷◌, ◌++◌, Option, Some, None, Bor, cond, length, length-append, max, nat_lt, not, zero, suc, refl, sym, ap, subst, ◌∙◌, arith, IsTrue, if◌then◌else◌, ltb-true}
 use Rattle.std.specs.List.{list_all, list_any}
 use Rattle.wgsl_reader.proofs.Common.{and_parts, sameb, same_true, the_type as rule_type, Kind, Mark, Rule, Symbol, below}
-use Rattle.wgsl_reader.specs.Grammar.{Line, chosen, chosen_if_any, expressions, find, is_chosen, lines_of, modules, production, requests, rules, statements}
+use Rattle.wgsl_reader.specs.Grammar.{Line, Rows, chosen, chosen_if_any, find, is_chosen, lines_of, production, rules, tables}
 use Rattle.wgsl_reader.specs.declared.grammar.Symbol.TheVariants as s
 use Rattle.wgsl_reader.proofs.Frames.{below_pushed}
 
@@ -48,11 +48,11 @@ weighs rule = weight_within 10 rule
 abbrev pub is_light : Rule → List Symbol → Bool
 is_light rule symbols = nat_lt (weight is_empty weighs symbols) (weighs rule) && (not (all_empty is_empty symbols) || is_empty rule)
 
-abbrev pub all_light : List (Rule × List Line) → Bool
+abbrev pub all_light : Rows → Bool
 all_light rows = list_all (λ row. list_all (λ line. is_light row.0 line.1) row.1) rows
 
 rules_light : IsTrue (all_light rules)
-unfolding expressions statements requests modules is_empty weighs
+unfolding tables is_empty weighs
 rules_light = refl
 
 -- so each line that is chosen is light
@@ -69,7 +69,7 @@ lines_pass p next (line ∷ lines) symbols h e = turn (is_chosen next line.0) (l
     turn true later e = let same : line.1 ≡ symbols = cc e in subst (λ symbols. IsTrue (p symbols)) same parts.0
     turn false later e = later e
 
-rows_pass : (rows : List (Rule × List Line)) (rule : Rule) (lines : List Line) → IsTrue (all_light rows) → find rule rows ≡ Some lines → IsTrue (list_all (λ line. is_light rule line.1) lines)
+rows_pass : (rows : Rows) (rule : Rule) (lines : List Line) → IsTrue (all_light rows) → find rule rows ≡ Some lines → IsTrue (list_all (λ line. is_light rule line.1) lines)
 rows_pass [] rule lines h e = absurd (cc e)
 rows_pass (row ∷ rows) rule lines h e = turn (sameb rule_type rule row.0) refl (rows_pass rows rule lines parts.1) e
   where

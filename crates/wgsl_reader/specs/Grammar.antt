@@ -19,31 +19,30 @@ Line = Option Kind × List Symbol
 abbrev pub line_of : Option Kind × Bor (List Symbol) → Line
 line_of line = (line.0, line.1.now)
 
--- a row of a table as the code has it
+abbrev pub Rows : Type 0
+Rows = List (Rule × List Line)
+
+-- a row, and a table, as the code has it
+
 abbrev pub row_of : Rule × Bor (List (Option Kind × Bor (List Symbol))) → Rule × List Line
 row_of row = (row.0, map line_of row.1.now)
 
--- the rules of types and expressions
-unfoldable pub expressions : List (Rule × List Line)
-expressions = map (λ row. (row.0, map (λ line. (line.0, line.1.now)) row.1.now)) EXPRESSIONS.now
+abbrev pub rows_of : Bor (List (Rule × Bor (List (Option Kind × Bor (List Symbol))))) → Rows
+rows_of rows = map row_of rows.now
 
--- the rules of statements
-unfoldable pub statements : List (Rule × List Line)
-statements = map (λ row. (row.0, map (λ line. (line.0, line.1.now)) row.1.now)) STATEMENTS.now
+-- the tables of expressions, statements, requests and declarations
+unfoldable pub tables : List Rows
+tables = map (λ rows. map (λ row. (row.0, map (λ line. (line.0, line.1.now)) row.1.now)) rows.now) (EXPRESSIONS ∷ STATEMENTS ∷ REQUESTS ∷ MODULES ∷ [])
 
--- the rules of requests
-unfoldable pub requests : List (Rule × List Line)
-requests = map (λ row. (row.0, map (λ line. (line.0, line.1.now)) row.1.now)) REQUESTS.now
-
--- the rules of directives and declarations
-unfoldable pub modules : List (Rule × List Line)
-modules = map (λ row. (row.0, map (λ line. (line.0, line.1.now)) row.1.now)) MODULES.now
+abbrev pub all : List Rows → Rows
+all [] = []
+all (rows ∷ tables) = rows ++ all tables
 
 -- all rules
-abbrev pub rules : List (Rule × List Line)
-rules = expressions ++ (statements ++ (requests ++ modules))
+abbrev pub rules : Rows
+rules = all tables
 
-abbrev pub find : Rule → List (Rule × List Line) → Option (List Line)
+abbrev pub find : Rule → Rows → Option (List Line)
 find rule [] = None
 find rule (row ∷ rows) = if sameb rule_type rule row.0 then Some row.1 else find rule rows
 

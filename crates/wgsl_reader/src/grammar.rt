@@ -3,13 +3,13 @@
 // It differs from WGSL's own in four places. An attribute is a name with any arguments. A template list is found by tokens, so
 // that a `<` behind `true` begins none. Directives and declarations are read one by one (module.rt), so that `@const` stands in
 // front of `fn` alone. A reserved word is a token of its own.
-ghost use Rattle.std.specs.Prelude.{◌≡◌, ◌++◌, map, option_map, slice_get};
-ghost use Rattle.wgsl_reader.specs.Grammar.{chosen, is_chosen, line_of, lines_of, production, row_of};
+ghost use Rattle.std.specs.Prelude.{◌≡◌, map, option_map};
+ghost use Rattle.wgsl_reader.specs.Grammar.{chosen, is_chosen, line_of, lines_of, production, rows_of, tables};
 
-use crate::grammar::expressions::expressions;
-use crate::grammar::modules::modules;
-use crate::grammar::requests::requests;
-use crate::grammar::statements::statements;
+use crate::grammar::expressions::EXPRESSIONS;
+use crate::grammar::modules::MODULES;
+use crate::grammar::requests::REQUESTS;
+use crate::grammar::statements::STATEMENTS;
 use crate::kind::Kind;
 use crate::mark::Mark;
 use crate::rule::Rule;
@@ -79,63 +79,28 @@ mod modules;
 mod requests;
 mod statements;
 
-/// A table of rules with their lines.
-type Rows = &'static [(Rule, &'static [Line])];
-
-/// The lines of the rule that has this index in a table.
-#[tactic(auto, using(crate::proofs::Rows::no_row))]
-fn lines_in(index: usize, rows: Rows) -> Option<&'static [Line]>
-    ensures { option_map (λ lines. map line_of lines.now) result ≡ option_map (λ row. row.1) (slice_get (map row_of rows.now) index) }
+/// The tables, which have the rules in the order of their enumeration.
+#[tactic(auto, unfolding(crate::specs::Grammar::tables))]
+fn tables() -> [&'static [(Rule, &'static [Line])]; 4]
+    ensures { map rows_of result ≡ tables }
 {
-    if index >= rows.len() {
-        return None;
-    }
-    Some(rows[index].1)
+    [EXPRESSIONS, STATEMENTS, REQUESTS, MODULES]
 }
 
-/// The lines of the rule that has this index in three tables, one behind the other.
-#[tactic(auto, using(crate::proofs::Rows::in_first, crate::proofs::Rows::in_second, crate::proofs::Rows::in_third))]
-fn lines_at(index: usize, first: Rows, second: Rows, third: Rows) -> Option<&'static [Line]>
-    ensures { option_map (λ lines. map line_of lines.now) result ≡ option_map (λ row. row.1) (slice_get (map row_of first.now ++ (map row_of second.now ++ map row_of third.now)) index) }
-{
-    if index < first.len() {
-        return lines_in(index, first);
-    }
-    let behind = index - first.len();
-    if behind < second.len() {
-        return lines_in(behind, second);
-    }
-    lines_in(behind - second.len(), third)
-}
-
-/// The lines of the rule that has this index in four tables, one behind the other.
-#[tactic(auto, using(crate::proofs::Rows::in_front, crate::proofs::Rows::in_rest))]
-fn lines_among(
-    index: usize,
-    first: Rows,
-    second: Rows,
-    third: Rows,
-    fourth: Rows,
-) -> Option<&'static [Line]>
-    ensures { option_map (λ lines. map line_of lines.now) result ≡ option_map (λ row. row.1) (slice_get (map row_of first.now ++ (map row_of second.now ++ (map row_of third.now ++ map row_of fourth.now))) index) }
-{
-    if index < first.len() {
-        return lines_in(index, first);
-    }
-    lines_at(index - first.len(), second, third, fourth)
-}
-
-/// The lines of a rule. The tables have the rules in the order of their enumeration.
+/// The lines of a rule.
+#[tactic(auto, using(crate::proofs::Rows::line_there, crate::proofs::Rows::no_line))]
 fn lines(rule: Rule) -> Option<&'static [Line]>
     ensures { option_map (λ lines. map line_of lines.now) result ≡ lines_of rule }
 {
-    lines_among(
-        rule as usize,
-        expressions(),
-        statements(),
-        requests(),
-        modules(),
-    )
+    let tables = tables();
+    let mut index = rule as usize;
+    for rows in &tables {
+        if index < rows.len() {
+            return Some(rows[index].1);
+        }
+        index -= rows.len();
+    }
+    None
 }
 
 /// What the first line stands for that is taken for the next token.

@@ -189,6 +189,7 @@ impl Search {
 }
 
 /// Makes the `<` with this index begin a list.
+#[tactic(auto, using(crate::proofs::Found::begun_there, crate::proofs::Found::begun_nowhere))]
 fn begin(index: usize, tokens: &mut Vec<Token>)
     ensures { tokens.new.items ≡ begun index tokens.old.items }
 {

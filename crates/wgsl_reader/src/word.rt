@@ -80,6 +80,7 @@ pub static WORDS: &[(u8, &[(&str, Kind)])] = words! {
     b'y' { Reserved "yield"; }
 };
 
+#[tactic(auto, unfolding(crate::specs::Words::words))]
 fn words() -> &'static [(u8, &'static [(&'static str, Kind)])]
     ensures { map row_of result.now ≡ words }
 {

@@ -1,6 +1,6 @@
 -- What WGSL's grammar reads in the tokens of a tree.
 use Rattle.std.proofs.Common.{◌≡◌, ◌+◌, ℕ, List, [], ◌∷◌, Ok, map, refl, ap, ◌∙◌}
-use Rattle.wgsl_reader.specs.Grammar.{expressions, modules, statements}
+use Rattle.wgsl_reader.specs.Grammar.{tables}
 use Rattle.wgsl_spelling.proofs.Common.{Outcome, ReadAt, all_read, kind_of, noted, rule_read, token_read, Kind, Event, Token}
 use Rattle.wgsl_reader.specs.declared.kind.Kind.TheVariants as k
 use Rattle.wgsl_reader.specs.declared.mark.Mark.{Mark}
@@ -62,12 +62,12 @@ pub data Parts : Kind → Type 0 where
 -- behind an operand nothing else belongs to the expression
 
 no_operator : {kind : Kind} → Parts kind → (symbols : List Symbol) (n : ℕ) (ks : List Kind) (o : Outcome) → ReadAt symbols n (kind ∷ ks) o → ReadAt (s.Rule r.Operators ∷ symbols) n (kind ∷ ks) o
-unfolding expressions statements modules
+unfolding tables
 no_operator comma symbols n ks o d = rule_read refl d
 no_operator close symbols n ks o d = rule_read refl d
 
 no_member : {kind : Kind} → Parts kind → (symbols : List Symbol) (n : ℕ) (ks : List Kind) (o : Outcome) → ReadAt symbols n (kind ∷ ks) o → ReadAt (s.Rule r.Postfix ∷ symbols) n (kind ∷ ks) o
-unfolding expressions statements modules
+unfolding tables
 no_member comma symbols n ks o d = rule_read refl d
 no_member close symbols n ks o d = rule_read refl d
 
@@ -81,13 +81,13 @@ rest_read part symbols n ks o d = no_member part (s.Rule r.Operators ∷ symbols
 
 alone : {kind : Kind} → Parts kind → (symbols : List Symbol) (n : ℕ) (ks : List Kind) (more : List Event) → ReadAt symbols n (kind ∷ ks) (Ok more)
     → ReadAt (s.Rule r.AfterValue ∷ symbols) n (kind ∷ ks) (Ok (event m.Value n ∷ more))
-unfolding expressions statements modules
+unfolding tables
 alone comma symbols n ks more d = rule_read refl (noted d)
 alone close symbols n ks more d = rule_read refl (noted d)
 
 no_call : {kind : Kind} → Parts kind → (symbols : List Symbol) (n : ℕ) (ks : List Kind) (more : List Event) → ReadAt symbols n (kind ∷ ks) (Ok more)
     → ReadAt (s.Rule r.Call ∷ symbols) n (kind ∷ ks) (Ok (event m.Value n ∷ more))
-unfolding expressions statements modules
+unfolding tables
 no_call comma symbols n ks more d = rule_read refl (noted d)
 no_call close symbols n ks more d = rule_read refl (noted d)
 
@@ -96,29 +96,29 @@ BehindList symbols = s.Rule r.Call ∷ Rest symbols
 
 with_list : (symbols : List Symbol) (n : ℕ) (ks : List Kind) (o : Outcome) → ReadAt (s.Rule r.Template ∷ BehindList symbols) n (k.OpenTemplate ∷ ks) o
     → ReadAt (s.Rule r.AfterValue ∷ s.Rule r.Operators ∷ symbols) n (k.OpenTemplate ∷ ks) o
-unfolding expressions statements modules
+unfolding tables
 with_list symbols n ks o d = rule_read refl d
 
 -- an expression that begins with a name, or is a number
 named : (symbols : List Symbol) (n : ℕ) (ks : List Kind) (more : List Event) → ReadAt (s.Rule r.AfterValue ∷ s.Rule r.Operators ∷ symbols) (n + 1) ks (Ok more)
     → ReadAt (s.Rule r.Unary ∷ s.Rule r.Operators ∷ symbols) n (k.Name ∷ ks) (Ok (event m.Name (n + 1) ∷ more))
-unfolding expressions statements modules
+unfolding tables
 named symbols n ks more d = rule_read refl (token_read refl (noted d))
 
 numbered : (symbols : List Symbol) (n : ℕ) (ks : List Kind) (more : List Event) → ReadAt (Rest symbols) (n + 1) ks (Ok more)
     → ReadAt (s.Rule r.Unary ∷ s.Rule r.Operators ∷ symbols) n (k.Number ∷ ks) (Ok (event m.Literal (n + 1) ∷ more))
-unfolding expressions statements modules
+unfolding tables
 numbered symbols n ks more d = rule_read refl (token_read refl (noted d))
 
 -- a list, from its `<` on
 opened : (symbols : List Symbol) (n : ℕ) (ks : List Kind) (more : List Event) → ReadAt (s.Rule r.Unary ∷ s.Rule r.Operators ∷ s.Rule r.MoreTemplate ∷ s.Token k.CloseTemplate ∷ s.Mark m.Template ∷ symbols) (n + 1) ks (Ok more)
     → ReadAt (s.Rule r.Template ∷ symbols) n (k.OpenTemplate ∷ ks) (Ok (event m.OpenTemplate (n + 1) ∷ more))
-unfolding expressions statements modules
+unfolding tables
 opened symbols n ks more d = rule_read refl (token_read refl (noted d))
 
 closed : (symbols : List Symbol) (n : ℕ) (ks : List Kind) (more : List Event) → ReadAt symbols (n + 1) ks (Ok more)
     → ReadAt (s.Rule r.MoreTemplate ∷ s.Token k.CloseTemplate ∷ s.Mark m.Template ∷ symbols) n (k.CloseTemplate ∷ ks) (Ok (event m.Template (n + 1) ∷ more))
-unfolding expressions statements modules
+unfolding tables
 closed symbols n ks more d = rule_read refl (token_read refl (noted d))
 
 -- one more parameter: it begins with a name or a number
@@ -128,7 +128,7 @@ pub data Begins : Kind → Type 0 where
 
 separated : {kind : Kind} → Begins kind → (symbols : List Symbol) (n : ℕ) (ks : List Kind) (o : Outcome) → ReadAt (s.Rule r.Unary ∷ s.Rule r.Operators ∷ s.Rule r.MoreTemplate ∷ symbols) (n + 1) (kind ∷ ks) o
     → ReadAt (s.Rule r.MoreTemplate ∷ symbols) n (k.Comma ∷ kind ∷ ks) o
-unfolding expressions statements modules
+unfolding tables
 separated by_name symbols n ks o d = rule_read refl (token_read refl (rule_read refl d))
 separated by_number symbols n ks o d = rule_read refl (token_read refl (rule_read refl d))
 
@@ -170,11 +170,11 @@ parameter (three w a b c) {kind} part symbols n ks more d =
 -- a tree that is no number is a type: the whole of the tokens
 
 typed : (n : ℕ) (ks : List Kind) (more : List Event) → ReadAt (s.Rule r.Template ∷ []) (n + 1) ks (Ok more) → ReadAt (s.Rule r.Type ∷ []) n (k.Name ∷ ks) (Ok (event m.Name (n + 1) ∷ more))
-unfolding expressions statements modules
+unfolding tables
 typed n ks more d = rule_read refl (token_read refl (noted d))
 
 ended : (n : ℕ) → ReadAt (s.Rule r.Template ∷ []) n [] (Ok [])
-unfolding expressions statements modules
+unfolding tables
 ended n = rule_read refl (all_read n)
 
 pub data IsType : Tree → Type 0 where

@@ -1,6 +1,4 @@
 // Types and expressions (WGSL, "Expression Grammar Summary").
-ghost use Rattle.std.specs.Prelude.{◌≡◌, map};
-ghost use Rattle.wgsl_reader.specs.Grammar.{expressions, row_of};
 
 use crate::grammar::{Line, Symbol};
 use crate::kind::Kind;
@@ -125,10 +123,3 @@ pub static EXPRESSIONS: &[(Rule, &[Line])] = grammar! {
         _ => []
     }
 };
-
-/// The rules of expressions.
-pub fn expressions() -> &'static [(Rule, &'static [Line])]
-    ensures { map row_of result.now ≡ expressions }
-{
-    EXPRESSIONS
-}

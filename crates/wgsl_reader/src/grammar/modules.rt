@@ -1,6 +1,4 @@
 // Modules and their declarations (WGSL, "Directives", "Declaration and Scope").
-ghost use Rattle.std.specs.Prelude.{◌≡◌, map};
-ghost use Rattle.wgsl_reader.specs.Grammar.{modules, row_of};
 
 use crate::grammar::{Line, Symbol};
 use crate::kind::Kind;
@@ -98,10 +96,3 @@ pub static MODULES: &[(Rule, &[Line])] = grammar! {
         _ => []
     }
 };
-
-/// The rules of modules.
-pub fn modules() -> &'static [(Rule, &'static [Line])]
-    ensures { map row_of result.now ≡ modules }
-{
-    MODULES
-}

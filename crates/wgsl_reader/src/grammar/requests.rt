@@ -1,6 +1,4 @@
 // What is asked about types: declarations, statements without statements inside, and questions, behind declarations.
-ghost use Rattle.std.specs.Prelude.{◌≡◌, map};
-ghost use Rattle.wgsl_reader.specs.Grammar.{requests, row_of};
 
 use crate::grammar::{Line, Symbol};
 use crate::kind::Kind;
@@ -95,10 +93,3 @@ pub static REQUESTS: &[(Rule, &[Line])] = grammar! {
         _ => []
     }
 };
-
-/// The rules of requests.
-pub fn requests() -> &'static [(Rule, &'static [Line])]
-    ensures { map row_of result.now ≡ requests }
-{
-    REQUESTS
-}

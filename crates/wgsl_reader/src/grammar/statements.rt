@@ -1,6 +1,4 @@
 // Statements (WGSL, "Statements").
-ghost use Rattle.std.specs.Prelude.{◌≡◌, map};
-ghost use Rattle.wgsl_reader.specs.Grammar.{statements, row_of};
 
 use crate::grammar::{Line, Symbol};
 use crate::kind::Kind;
@@ -141,10 +139,3 @@ pub static STATEMENTS: &[(Rule, &[Line])] = grammar! {
         _ => [MinusMinus {Decrement}]
     }
 };
-
-/// The rules of statements.
-pub fn statements() -> &'static [(Rule, &'static [Line])]
-    ensures { map row_of result.now ≡ statements }
-{
-    STATEMENTS
-}
