@@ -225,7 +225,10 @@ impl<'t> Expressions<'t> {
             return Ok(Outcome::Faulty);
         };
         let value = match x.value {
-            Some(value) => self.computed(place, unary_value(operator, value))?,
+            Some(value) => {
+                let sign = self.token_before(count).kind;
+                self.computed(place, unary_value(sign, value))?
+            }
             None => None,
         };
         Ok(of_call(call, x.stage, value))
