@@ -5,6 +5,7 @@ mod signature;
 mod uses;
 
 use crate::proved::wgsl_core::ty::show::ShownType;
+use crate::proved::wgsl_forms::form::Referent;
 use crate::proved::wgsl_faults::report::explained;
 use crate::proved::wgsl_module::module::{check as checked, Checked as Found};
 use crate::proved::wgsl_names::fault::Place;
@@ -122,7 +123,7 @@ pub fn check_in(host: &[(&str, Meaning)], text: &str) -> Checked {
     let parts = found.parts.into_iter().map(|part| Part {
         bytes: bytes(part.place),
         typed: match part.outcome {
-            Outcome::Typed(typed) => Some((typed.ty, typed.stage)),
+            Outcome::Typed(typed) => Some((shown(typed.referent, typed.ty), typed.stage)),
             Outcome::NoValue | Outcome::Faulty => None,
         },
         declared: part.declared.map(|count| start_of(text, &tokens, count.wrapping_sub(1))),
@@ -141,6 +142,14 @@ pub fn check_in(host: &[(&str, Meaning)], text: &str) -> Checked {
     let mut by_text: Vec<usize> = (0..names.len()).collect();
     by_text.sort_by(|left, right| names[*left].text.cmp(&names[*right].text));
     Checked { parts, faults, names, text: text.into(), tokens, counts, by_end, by_text }
+}
+
+/// The type that is shown: of a swizzle that of its value.
+fn shown(referent: Referent, ty: Type) -> Type {
+    match (referent, ty) {
+        (Referent::Swizzle, Type::Ref(_, value, _)) => *value,
+        (_, ty) => ty,
+    }
 }
 
 /// Says of faults of syntax what may stand there, as many as the program explains.

@@ -15,7 +15,6 @@
 //! # Ok::<(), usize>(())
 //! ```
 
-use crate::proved::wgsl_expressions::literal::type_of_literal;
 pub use crate::proved::wgsl_reader::kind::Kind;
 pub use crate::proved::wgsl_reader::mark::Mark;
 pub use crate::proved::wgsl_reader::module::Misread;
@@ -25,6 +24,7 @@ pub use crate::proved::wgsl_reader::rule::Rule;
 pub use crate::proved::wgsl_reader::token::Token;
 use crate::proved::wgsl_reader::{expected, lists, module, read};
 use crate::proved::wgsl_report::keyword;
+use crate::proved::wgsl_spelling::value::type_of_literal;
 use crate::shim::always;
 use crate::shim::std::alloc::Global;
 use crate::Type;

@@ -44,6 +44,7 @@ class Reader:
             raise NoExpression
         self.tokens = [token for token in found if token[2] != "comment"]
         self.taken = 0
+        self.operands = []  # where the types begin and end that stand for operands
 
     def next(self, behind=0):
         index = self.taken + behind
@@ -155,13 +156,18 @@ class Reader:
         if text == "const" and self.next()[2] == "name":
             name, _, _ = self.next()
             self.taken += 1
-            return Node(at, "operand", ((name, self.list(name)), True))
+            return self.operand(at, (name, self.list(name)), True)
         if kind != "name" or text == "const":
             raise NoExpression
         named = text, self.list(text)
         if not self.take("("):
-            return Node(at, "operand", (named, False))
+            return self.operand(at, named, False)
         return Node(at, "call", named, self.arguments())
+
+    def operand(self, at, named, is_constant):
+        text, last, _ = self.tokens[self.taken - 1]
+        self.operands.append((at, last + len(text)))
+        return Node(at, "operand", (named, is_constant))
 
     def arguments(self):
         values = []

@@ -1,8 +1,11 @@
--- Literals of integers (WGSL, "Numeric Literals").
-use Rattle.std.specs.Prelude.{ℕ, ◌+◌, ◌*◌, ◌^◌, pos, Bool, true, false, List, [], ◌∷◌, ◌&&◌, ◌||◌, cond, Option, Some, None, Result, Ok, Err, nat_eq, nat_lt, nat_le, drop, length, take, get_or, ◌-◌}
+-- Literals of integers, and the types of all numbers (WGSL, "Numeric Literals").
+use Rattle.std.specs.Prelude.{ℕ, ◌+◌, ◌*◌, ◌^◌, pos, Bool, true, false, List, [], ◌∷◌, ◌&&◌, ◌||◌, cond, Option, Some, None, Result, Ok, Err, nat_eq, nat_lt, nat_le, not, drop, length, take, get_or, ◌-◌}
 use Rattle.std.specs.Char.{digit_value}
+use Rattle.std.specs.List.{list_any}
 use Rattle.wgsl_constants.specs.declared.integer.Integer.{Integer}
 use Rattle.wgsl_constants.specs.declared.integer.Integer.TheVariants.{Abstract, I32, U32}
+use Rattle.wgsl_syntax.specs.declared.scalar.Scalar.{Scalar}
+use Rattle.wgsl_syntax.specs.declared.scalar.Scalar.TheVariants as scalars
 
 -- the value, if there is one
 abbrev pub found : {A E : Type 0} → Result A E → Option A
@@ -64,3 +67,32 @@ is_hexadecimal short = false
 -- the integer that a literal stands for: `42`, `0x2Au`. A float stands for none.
 abbrev pub integer_of : List ℕ → Option Integer
 integer_of literal = cond (is_hexadecimal literal) (suffixed 16 (drop 2 literal)) (suffixed 10 literal)
+
+-- Types
+
+-- `p`, `P`
+abbrev pub is_binary_exponent : ℕ → Bool
+is_binary_exponent byte = nat_eq byte 112 || nat_eq byte 80
+
+-- `.`, `e`, `E`, `p`, `P`
+abbrev pub is_float_sign : ℕ → Bool
+is_float_sign byte = nat_eq byte 46 || nat_eq byte 101 || nat_eq byte 69 || is_binary_exponent byte
+
+-- `0x1F`, `0x1.8f`: without an exponent, `e` and `f` are digits
+abbrev pub has_digits_alone : List ℕ → Bool
+has_digits_alone number = is_hexadecimal number && not (list_any is_binary_exponent number)
+
+-- `1`, `0x1.8`, `1e3`
+abbrev pub abstract_type : Bool → Scalar
+abstract_type is_float = cond is_float scalars.AbstractFloat scalars.AbstractInt
+
+-- `1.5f`, `1h`, `0x1p3f`, `1.5`
+abbrev pub type_by_suffix : List ℕ → Scalar
+type_by_suffix number =
+    cond (ends_with 102 number) scalars.F32 (cond (ends_with 104 number) scalars.F16 (abstract_type (list_any is_float_sign number)))
+
+-- the type of a number: `1u`, `1i`, or another
+abbrev pub type_of_number : List ℕ → Scalar
+type_of_number number =
+    cond (ends_with 117 number) scalars.U32 (cond (ends_with 105 number) scalars.I32
+    (cond (has_digits_alone number) (abstract_type (list_any (λ byte. nat_eq byte 46) number)) (type_by_suffix number)))

@@ -1,8 +1,10 @@
 -- Vectors of integers, and their components (WGSL, "Value Constructor Built-in Functions", "Vector Access Expression").
 use Rattle.std.specs.Prelude.{ℕ, pos, List, [], ◌∷◌, false, Option, Some, None, Result, Ok, Err, codes}
 use Rattle.wgsl_syntax.specs.Names.{named}
+use Rattle.wgsl_syntax.specs.declared.scalar.Scalar.{Scalar}
+use Rattle.wgsl_syntax.specs.declared.scalar.Scalar.TheVariants as scalars
 use Rattle.wgsl_constants.specs.declared.integer.Integer.{Integer}
-use Rattle.wgsl_constants.specs.declared.integer.Integer.TheVariants.{Abstract}
+use Rattle.wgsl_constants.specs.declared.integer.Integer.TheVariants.{Abstract, I32, U32}
 use Rattle.wgsl_constants.specs.declared.integer.IntegerError.{IntegerError}
 use Rattle.wgsl_constants.specs.declared.call.Arguments.{Arguments}
 use Rattle.wgsl_constants.specs.declared.call.Arguments.TheVariants.{Zero, One, Two, Three, Four}
@@ -36,6 +38,13 @@ component_names =
 
 abbrev pub component_named : List ℕ → Option Component
 component_named name = named component_names name
+
+-- the zero of a type of integers
+abbrev pub zero_of : Scalar → Option Integer
+zero_of scalars.AbstractInt = Some (Abstract (pos 0))
+zero_of scalars.I32 = Some (I32 (pos 0))
+zero_of scalars.U32 = Some (U32 0)
+zero_of other = None
 
 -- the first integer, in the type of both
 abbrev pub alike : Integer → Integer → Result Integer IntegerError

@@ -1,9 +1,11 @@
-// Literals of integers (WGSL, "Numeric Literals").
+// Literals of integers, and the types of all numbers (WGSL, "Numeric Literals").
 ghost use Rattle.std.specs.Prelude.{◌≡◌, ◌<◌};
 ghost use Rattle.std.specs.Char.{digit_value as value_of_digit};
-ghost use Rattle.wgsl_constants.specs.Literals.{appended, as_abstract, as_i32, as_u32, found, integer_of, is_wrong, number, suffixed};
+ghost use Rattle.std.specs.List.{list_any};
+ghost use Rattle.wgsl_constants.specs.Literals.{abstract_type, appended, as_abstract, as_i32, as_u32, ends_with, found, has_digits_alone, integer_of, is_binary_exponent, is_float_sign, is_hexadecimal, is_wrong, number, suffixed, type_by_suffix, type_of_number};
 
 use crate::integer::Integer;
+use wgsl_syntax::scalar::Scalar;
 
 /// Why a literal is no integer.
 #[derive(Clone, Copy)]
@@ -111,4 +113,81 @@ fn digit_value(byte: u8) -> u64
         _ => 36,
     };
     u64::from(value)
+}
+
+/// The type of a literal that is a number.
+pub fn type_of_number(number: &[u8]) -> Scalar
+    ensures { result ≡ type_of_number number.now }
+{
+    if ends_with(b'u', number) {
+        Scalar::U32
+    } else if ends_with(b'i', number) {
+        Scalar::I32
+    } else if has_digits_alone(number) {
+        abstract_type(number.contains(&b'.'))
+    } else {
+        type_by_suffix(number)
+    }
+}
+
+fn type_by_suffix(number: &[u8]) -> Scalar
+    ensures { result ≡ type_by_suffix number.now }
+{
+    if ends_with(b'f', number) {
+        Scalar::F32
+    } else if ends_with(b'h', number) {
+        Scalar::F16
+    } else {
+        abstract_type(has_float_sign(number))
+    }
+}
+
+fn abstract_type(is_float: bool) -> Scalar
+    ensures { result ≡ abstract_type is_float }
+{
+    if is_float {
+        Scalar::AbstractFloat
+    } else {
+        Scalar::AbstractInt
+    }
+}
+
+/// Whether the number is hexadecimal and has no exponent, so that it ends in a digit.
+fn has_digits_alone(number: &[u8]) -> bool
+    ensures { result ≡ has_digits_alone number.now }
+{
+    is_hexadecimal(number) && !has_binary_exponent(number)
+}
+
+fn is_hexadecimal(number: &[u8]) -> bool
+    ensures { result ≡ is_hexadecimal number.now }
+{
+    matches!(number, [b'0', b'x' | b'X', ..])
+}
+
+fn has_binary_exponent(number: &[u8]) -> bool
+    ensures { result ≡ list_any is_binary_exponent number.now }
+{
+    number.iter().any(|byte| *byte == b'p' || *byte == b'P')
+}
+
+fn has_float_sign(number: &[u8]) -> bool
+    ensures { result ≡ list_any is_float_sign number.now }
+{
+    number.iter().any(|byte| is_float_sign(*byte))
+}
+
+fn is_float_sign(byte: u8) -> bool
+    ensures { result ≡ is_float_sign byte }
+{
+    matches!(byte, b'.' | b'e' | b'E' | b'p' | b'P')
+}
+
+fn ends_with(last: u8, number: &[u8]) -> bool
+    ensures { result ≡ ends_with last number.now }
+{
+    match number {
+        [.., byte] => *byte == last,
+        [] => false,
+    }
 }

@@ -2,13 +2,14 @@
 ghost use Rattle.std.specs.Prelude.{◌≡◌, false};
 ghost use Rattle.wgsl_constants.specs.Literals.{found};
 ghost use Rattle.wgsl_constants.specs.Values.{value};
-ghost use Rattle.wgsl_constants.specs.Vectors.{alike, and_product, component, component_named, dot, four, like, same, size_named, three, two, vector_of};
+ghost use Rattle.wgsl_constants.specs.Vectors.{alike, and_product, component, component_named, dot, four, like, same, size_named, three, two, vector_of, zero_of};
 ghost use Rattle.wgsl_constants.specs.declared.integer.IntegerOperator.TheVariants.{Addition, Multiplication};
 
 use crate::call::{Arguments, CallError, integer};
 use crate::function::select;
 use crate::integer::{Integer, IntegerError, IntegerOperator};
 use crate::operator::apply;
+use wgsl_syntax::scalar::Scalar;
 
 /// The number of components of a vector.
 #[derive(Clone, Copy)]
@@ -26,6 +27,14 @@ pub enum Component {
     Third,
     Fourth,
 }
+
+/// The components of the longest vectors, in order.
+pub const COMPONENTS: [Component; 4] = [
+    Component::First,
+    Component::Second,
+    Component::Third,
+    Component::Fourth,
+];
 
 /// A vector of integers of one type.
 #[derive(Clone, Copy)]
@@ -167,6 +176,18 @@ pub fn alike(a: Integer, b: Integer) -> Result<Integer, IntegerError>
     ensures { result ≡ alike a b }
 {
     select(a, b, false)
+}
+
+/// The zero of a type of integers.
+pub fn zero_of(scalar: Scalar) -> Option<Integer>
+    ensures { result ≡ zero_of scalar }
+{
+    match scalar {
+        Scalar::AbstractInt => Some(Integer::Abstract(0)),
+        Scalar::I32 => Some(Integer::I32(0)),
+        Scalar::U32 => Some(Integer::U32(0)),
+        _ => None,
+    }
 }
 
 fn two(a: Integer, b: Integer) -> Result<Vector, IntegerError>

@@ -6,7 +6,7 @@ use Rattle.wgsl_reader.specs.declared.mark.Mark.TheVariants as m
 use Rattle.wgsl_spelling.specs.Names.{access_named, space_named}
 use Rattle.wgsl_syntax.specs.declared.operator.AssignmentOperator.TheVariants.{Equal}
 use Rattle.wgsl_expressions.specs.Stack.{struct_on, By, Call, Next, On, Puts, a_call, a_question, an_asked, an_overloads, asked_on, call_on, operand_on, place_on, with_operand}
-use Rattle.wgsl_expressions.specs.RequestTokens.{type_of_literal}
+use Rattle.wgsl_spelling.specs.Values.{type_of_literal}
 use Rattle.wgsl_expressions.specs.Source.{head_noted, Scope, Source, byte_at, first_count, kind_at, noted, text_at, type_noted}
 use Rattle.wgsl_spelling.specs.Operators.{binary_of, unary_of}
 use Rattle.wgsl_expressions.specs.Outcomes.{Head, IsCalled, IsElement, IsMember, Outcome, Parts, no_parts, overloaded, with_part}

@@ -7,7 +7,6 @@ pub mod expression;
 mod heading;
 mod item;
 pub mod laws;
-pub mod literal;
 pub mod misread;
 mod name;
 pub mod outcome;

@@ -12,7 +12,6 @@ ghost use Rattle.wgsl_expressions.specs.Views.{Does, call_view, head_view, items
 use crate::ask::{binary, call, element, member};
 use crate::heading::{begin_heading, put_attribute, put_member as put_declared, put_result};
 use crate::item::{Call, push, put, take_call, take_operand, take_place};
-use crate::literal::type_of_literal;
 use crate::name::head_noted;
 use crate::outcome::{given, with_part};
 use crate::prelude::*;
@@ -23,6 +22,7 @@ use crate::statement_step::{
 };
 use wgsl_forms::concrete::has_abstract_type;
 use wgsl_spelling::operator::{binary_of, unary_of};
+use wgsl_spelling::value::type_of_literal;
 
 /// Does with the items what is noted at an index, with the names of a scope: the last item is on top.
 #[inline(always)]

@@ -11,6 +11,7 @@ use wgsl_report::message::{Message, Severity, beginning};
 use wgsl_report::write::{Piece, write_all};
 use wgsl_syntax::rules::RuleSet;
 use wgsl_typing::count::with_counts;
+use wgsl_typing::expression::shown_type;
 
 /// Writes a line per expression that has a type: its place, how it begins, and the type.
 pub fn write_types(output: &mut String, source: Source, parts: &[Part]) -> Result<(), AllocError> {
@@ -125,7 +126,7 @@ fn write_place(output: &mut String, source: Source, at: usize) -> Result<(), All
 /// The spelling of a type by WGSL's own rules, with counts that overrides give as they are written.
 fn type_text(source: Source, typed: &Typed) -> Result<String, AllocError> {
     let shown = ShownType {
-        ty: &typed.ty,
+        ty: shown_type(typed),
         rules: RuleSet::Standard,
     };
     let text = format!(in source.alloc; "{shown}")?;

@@ -2,8 +2,7 @@
 
 use wgsl_constants::constant::Constant;
 use wgsl_constants::integer::Integer;
-use wgsl_constants::operator::{to_i32, to_u32};
-use wgsl_constants::vector::Vector;
+use wgsl_constants::vector::{COMPONENTS, Vector, alike, zero_of};
 use wgsl_core::ty::Type;
 use wgsl_core::ty::form::Form;
 use wgsl_syntax::scalar::Scalar;
@@ -50,68 +49,37 @@ fn converted(one: Constant, to: Scalar) -> Result<Option<Constant>, OutOfRange> 
     }
 }
 
+/// An integer in a type to which its own converts.
 fn converted_integer(integer: Integer, to: Scalar) -> Result<Option<Constant>, OutOfRange> {
-    match (integer, to) {
-        (Integer::Abstract(value), Scalar::I32) => match to_i32(value) {
-            Ok(value) => Ok(Some(Constant::Integer(Integer::I32(value)))),
+    match (zero_of(to), integer) {
+        (Some(zero), _) => match alike(integer, zero) {
+            Ok(found) => Ok(Some(Constant::Integer(found))),
             Err(_) => Err(OutOfRange),
         },
-        (Integer::Abstract(value), Scalar::U32) => match to_u32(value) {
-            Ok(value) => Ok(Some(Constant::Integer(Integer::U32(value)))),
-            Err(_) => Err(OutOfRange),
+        (None, Integer::Abstract(value)) => match to {
+            Scalar::F16 if value > 65519 || value < -65519 => Err(OutOfRange),
+            Scalar::F32 | Scalar::F16 | Scalar::AbstractFloat => Ok(Some(Constant::Float(value))),
+            _ => Ok(None),
         },
-        (Integer::Abstract(_), Scalar::AbstractInt)
-        | (Integer::I32(_), Scalar::I32)
-        | (Integer::U32(_), Scalar::U32) => Ok(Some(Constant::Integer(integer))),
-        (Integer::Abstract(value), Scalar::F16) if value > 65519 || value < -65519 => {
-            Err(OutOfRange)
-        }
-        (Integer::Abstract(value), Scalar::F32 | Scalar::F16 | Scalar::AbstractFloat) => {
-            Ok(Some(Constant::Float(value)))
-        }
         _ => Ok(None),
     }
 }
 
+/// A vector of integers in a type to which its own converts. One of floats isn't computed, but may be out of range.
 fn each_converted(several: Vector, to: Option<Scalar>) -> Result<Option<Value>, OutOfRange> {
     let Some(to) = to else {
         return Ok(None);
     };
-    let found = match several {
-        Vector::Two(x, y) => pair(converted_integer(x, to)?, converted_integer(y, to)?),
-        Vector::Three(x, y, z) => three(
-            converted_integer(x, to)?,
-            converted_integer(y, to)?,
-            converted_integer(z, to)?,
-        ),
-        Vector::Four(x, y, z, w) => four(
-            pair(converted_integer(x, to)?, converted_integer(y, to)?),
-            pair(converted_integer(z, to)?, converted_integer(w, to)?),
-        ),
-    };
-    match found {
-        Some(vector) => Ok(Some(Value::Several(vector))),
-        None => Ok(None),
+    if let Some(zero) = zero_of(to) {
+        return match several.like(zero) {
+            Ok(vector) => Ok(Some(Value::Several(vector))),
+            Err(_) => Err(OutOfRange),
+        };
     }
-}
-
-fn pair(x: Option<Constant>, y: Option<Constant>) -> Option<Vector> {
-    match (x?, y?) {
-        (Constant::Integer(x), Constant::Integer(y)) => Some(Vector::Two(x, y)),
-        _ => None,
+    for which in &COMPONENTS {
+        if let Some(integer) = several.component(*which) {
+            converted_integer(integer, to)?;
+        }
     }
-}
-
-fn three(x: Option<Constant>, y: Option<Constant>, z: Option<Constant>) -> Option<Vector> {
-    match (pair(x, y)?, z?) {
-        (Vector::Two(x, y), Constant::Integer(z)) => Some(Vector::Three(x, y, z)),
-        _ => None,
-    }
-}
-
-fn four(first: Option<Vector>, last: Option<Vector>) -> Option<Vector> {
-    match (first?, last?) {
-        (Vector::Two(x, y), Vector::Two(z, w)) => Some(Vector::Four(x, y, z, w)),
-        _ => None,
-    }
+    Ok(None)
 }

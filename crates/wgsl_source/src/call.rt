@@ -5,10 +5,10 @@ use crate::item::{Content, Item};
 use crate::meant::is_function;
 use crate::measured::{MeasuredType, TypeKind};
 use crate::scope::{Meaning, Scope};
-use crate::value::{COMPONENTS, Value, zero_of};
+use crate::value::Value;
 use wgsl_constants::call::{Arguments, Function};
 use wgsl_constants::constant::Constant;
-use wgsl_constants::vector::{Size, Vector};
+use wgsl_constants::vector::{COMPONENTS, Size, Vector, zero_of};
 use wgsl_spelling::predeclared::{PredeclaredType, predeclared};
 use wgsl_syntax::scalar::Scalar;
 

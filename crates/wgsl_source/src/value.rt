@@ -11,7 +11,7 @@ use crate::scope::{Meaning, Scope};
 use wgsl_constants::call::{Arguments, Function, integer};
 use wgsl_constants::constant::Constant;
 use wgsl_constants::integer::Integer;
-use wgsl_constants::vector::{Component, Vector, alike};
+use wgsl_constants::vector::{COMPONENTS, Component, Vector, alike, zero_of};
 use wgsl_reader::kind::Kind;
 use wgsl_reader::read::Event;
 use wgsl_spelling::value::{binary_value, unary_value};
@@ -26,14 +26,6 @@ pub enum Value {
     /// A value that is known when the pipeline is created.
     Later,
 }
-
-/// The components of the longest vectors, in order.
-pub const COMPONENTS: [Component; 4] = [
-    Component::First,
-    Component::Second,
-    Component::Third,
-    Component::Fourth,
-];
 
 /// A value, and where its expression stands in the text.
 #[derive(Clone, Copy)]
@@ -109,15 +101,6 @@ fn converted(value: Value, ty: MeasuredType) -> Result<Value, Cause> {
             None => Err(Cause::NotInteger),
         },
         _ => Err(Cause::NotInteger),
-    }
-}
-
-/// The zero of a type of integers.
-pub fn zero_of(scalar: Scalar) -> Option<Integer> {
-    match scalar {
-        Scalar::I32 => Some(Integer::I32(0)),
-        Scalar::U32 => Some(Integer::U32(0)),
-        _ => None,
     }
 }
 

@@ -6,7 +6,7 @@ use Rattle.std.specs.declared.cmp.Ordering.{Ordering}
 use Rattle.wgsl_reader.specs.declared.kind.Kind.{Kind}
 use Rattle.wgsl_reader.specs.declared.kind.Kind.TheVariants as k
 use Rattle.wgsl_constants.specs.Functions.{comparison, of_pair}
-use Rattle.wgsl_constants.specs.Literals.{found, integer_of, then}
+use Rattle.wgsl_constants.specs.Literals.{found, integer_of, then, type_of_number}
 use Rattle.wgsl_constants.specs.Values.{left_shift, map_value, negative, right_shift, value}
 use Rattle.wgsl_constants.specs.Shifts.{complement_of}
 use Rattle.wgsl_constants.specs.declared.constant.Constant.{Constant}
@@ -15,6 +15,8 @@ use Rattle.wgsl_constants.specs.declared.integer.Integer.{Integer}
 use Rattle.wgsl_constants.specs.declared.integer.Integer.TheVariants.{Abstract, I32, U32}
 use Rattle.wgsl_constants.specs.declared.integer.IntegerOperator.{IntegerOperator}
 use Rattle.wgsl_constants.specs.declared.integer.IntegerOperator.TheVariants.{Addition, Subtraction, Multiplication, Division, Remainder, BitwiseOr, BitwiseAnd, BitwiseXor}
+use Rattle.wgsl_syntax.specs.declared.scalar.Scalar.{Scalar}
+use Rattle.wgsl_syntax.specs.declared.scalar.Scalar.TheVariants.{Bool as TheBool}
 use Rattle.wgsl_spelling.specs.declared.item.Item.{Item}
 use Rattle.wgsl_spelling.specs.declared.item.Value.{Value}
 use Rattle.wgsl_spelling.specs.declared.item.Value.TheVariants as v
@@ -45,6 +47,14 @@ bool_of other = None
 abbrev pub literal_by : Option Bool → List ℕ → Option Constant
 literal_by (Some b) text = Some (c.Bool b)
 literal_by None text = map_value c.Integer (integer_of text)
+
+abbrev pub type_by : Option Bool → List ℕ → Scalar
+type_by (Some b) text = TheBool
+type_by None text = type_of_number text
+
+-- the type of a literal, by the kind of its token
+abbrev pub type_of_literal : Kind → List ℕ → Scalar
+type_of_literal kind text = type_by (bool_of kind) text
 
 -- `4u`, `true`
 abbrev pub literal : List ℕ → Token → Option Constant

@@ -4,7 +4,7 @@ ghost use Rattle.wgsl_constants.specs.Literals.{found};
 ghost use Rattle.wgsl_constants.specs.Values.{negative, value};
 ghost use Rattle.wgsl_spelling.specs.Items.{constant, integer, is_value};
 ghost use Rattle.wgsl_spelling.specs.Seen.{Gives, IsFault};
-ghost use Rattle.wgsl_spelling.specs.Values.{binary, binary_value, bool_of, compared, comparison_of, count, count_of, first_of, holds, literal, of_bools, operator_of, sign_in, sign_value, unary, unary_value, valued};
+ghost use Rattle.wgsl_spelling.specs.Values.{binary, binary_value, bool_of, compared, comparison_of, count, count_of, first_of, holds, literal, of_bools, operator_of, sign_in, sign_value, type_of_literal, unary, unary_value, valued};
 
 use crate::fault::{Cause, Expected, Stop, stop_at};
 use crate::item::{Item, Value};
@@ -13,10 +13,11 @@ use std::cmp::Ordering;
 use wgsl_constants::call::CallError;
 use wgsl_constants::constant::Constant;
 use wgsl_constants::integer::{Integer, IntegerOperator};
-use wgsl_constants::literal::{LiteralError, integer_of};
+use wgsl_constants::literal::{LiteralError, integer_of, type_of_number};
 use wgsl_constants::operator::{apply, compare, complement, negative, shift_left, shift_right};
 use wgsl_reader::kind::Kind;
 use wgsl_reader::token::Token;
+use wgsl_syntax::scalar::Scalar;
 
 /// How two integers are compared.
 #[derive(Clone, Copy)]
@@ -81,6 +82,16 @@ pub fn literal(text: &str, token: Token) -> Result<Constant, Stop>
         Ok(integer) => Ok(Constant::Integer(integer)),
         Err(LiteralError::NotInteger) => Err(stop_at(token.at, Cause::NotInteger)),
         Err(LiteralError::Overflow) => Err(stop_at(token.at, Cause::Overflow)),
+    }
+}
+
+/// The type of a literal, by the kind of its token and its text (WGSL, "Literals").
+pub fn type_of_literal(kind: Kind, text: &[u8]) -> Scalar
+    ensures { result ≡ type_of_literal kind text.now }
+{
+    match bool_of(kind) {
+        Some(_) => Scalar::Bool,
+        None => type_of_number(text),
     }
 }
 

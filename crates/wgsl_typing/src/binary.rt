@@ -124,7 +124,10 @@ impl<'t> Expressions<'t> {
             return Ok(Outcome::Faulty);
         }
         let value = match (a, b) {
-            (Some(a), Some(b)) => self.computed(place, binary_value(operator, a, b))?,
+            (Some(a), Some(b)) => {
+                let sign = self.token_before(count).kind;
+                self.computed(place, binary_value(sign, a, b))?
+            }
             (Some(a), None) => decided(operator, a),
             _ => None,
         };

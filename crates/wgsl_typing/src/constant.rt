@@ -1,16 +1,17 @@
 // Values of operators and calls, where they are integers or `bool` (WGSL, "Early Evaluation Expressions").
 
-use std::cmp::Ordering;
 use wgsl_constants::call::{Arguments, CallError, Function};
 use wgsl_constants::constant::Constant;
-use wgsl_constants::integer::{Integer, IntegerError, IntegerOperator};
-use wgsl_constants::operator::{apply, compare, complement, negative, shift_left, shift_right};
+use wgsl_constants::integer::IntegerError;
+use wgsl_constants::operator::negative;
 use wgsl_constants::vector::{Size, Vector};
 use wgsl_core::ty::Type;
 use wgsl_core::ty::form::Form;
 use wgsl_names::stage::Stage;
 use wgsl_names::value::Value;
-use wgsl_syntax::operator::{BinaryOperator, UnaryOperator};
+use wgsl_reader::kind::Kind;
+use wgsl_spelling::value;
+use wgsl_syntax::operator::BinaryOperator;
 
 /// A value, if it is computed, or what is wrong with it.
 pub type Computed = Result<Option<Value>, &'static str>;
@@ -28,27 +29,23 @@ fn said(error: IntegerError) -> &'static str {
     }
 }
 
-fn of_integer(found: Result<Integer, IntegerError>) -> Computed {
+/// The value of operators and functions on constants, whose values are proved. Of other constants it isn't computed.
+fn of_constants(found: Result<Constant, CallError>) -> Computed {
     match found {
-        Ok(integer) => Ok(Some(Value::One(Constant::Integer(integer)))),
-        Err(error) => Err(said(error)),
+        Ok(constant) => Ok(Some(Value::One(constant))),
+        Err(CallError::Integer(error)) => Err(said(error)),
+        Err(CallError::NotInteger | CallError::WrongArgumentCount) => Ok(None),
     }
 }
 
 /// The value of `-x`, `~x`, `!x`.
-pub fn unary_value(operator: UnaryOperator, value: Value) -> Computed {
-    match (operator, value) {
-        (UnaryOperator::Negation, Value::One(Constant::Integer(x))) => of_integer(negative(x)),
-        (UnaryOperator::Negation, Value::Several(x)) => match negatives(x) {
+pub fn unary_value(sign: Kind, value: Value) -> Computed {
+    match (sign, value) {
+        (_, Value::One(x)) => of_constants(value::unary_value(sign, x)),
+        (Kind::Minus, Value::Several(x)) => match negatives(x) {
             Ok(vector) => Ok(Some(Value::Several(vector))),
             Err(error) => Err(said(error)),
         },
-        (UnaryOperator::BitwiseComplement, Value::One(Constant::Integer(x))) => {
-            of_integer(Ok(complement(x)))
-        }
-        (UnaryOperator::LogicalNegation, Value::One(Constant::Bool(x))) => {
-            Ok(Some(Value::One(Constant::Bool(!x))))
-        }
         _ => Ok(None),
     }
 }
@@ -64,71 +61,11 @@ fn negatives(vector: Vector) -> Result<Vector, IntegerError> {
 }
 
 /// The value of a binary operator of scalars.
-pub fn binary_value(operator: BinaryOperator, x: Value, y: Value) -> Computed {
+pub fn binary_value(sign: Kind, x: Value, y: Value) -> Computed {
     match (x, y) {
-        (Value::One(Constant::Integer(x)), Value::One(Constant::Integer(y))) => {
-            integer_value(operator, x, y)
-        }
-        (Value::One(Constant::Bool(x)), Value::One(Constant::Bool(y))) => {
-            match bool_value(operator, x, y) {
-                Some(b) => Ok(Some(Value::One(Constant::Bool(b)))),
-                None => Ok(None),
-            }
-        }
+        (Value::One(x), Value::One(y)) => of_constants(value::binary_value(sign, x, y)),
         _ => Ok(None),
     }
-}
-
-fn bool_value(operator: BinaryOperator, x: bool, y: bool) -> Option<bool> {
-    match operator {
-        BinaryOperator::ShortCircuitAnd | BinaryOperator::BitwiseAnd => Some(x && y),
-        BinaryOperator::ShortCircuitOr | BinaryOperator::BitwiseOr => Some(x || y),
-        BinaryOperator::Equality => Some(x == y),
-        BinaryOperator::Inequality => Some(x != y),
-        _ => None,
-    }
-}
-
-fn integer_value(operator: BinaryOperator, x: Integer, y: Integer) -> Computed {
-    match operator {
-        BinaryOperator::ShiftLeft => of_integer(shift_left(x, y)),
-        BinaryOperator::ShiftRight => of_integer(shift_right(x, y)),
-        _ => match integer_operator(operator) {
-            Some(operator) => of_integer(apply(operator, x, y)),
-            None => compared(operator, x, y),
-        },
-    }
-}
-
-fn integer_operator(operator: BinaryOperator) -> Option<IntegerOperator> {
-    match operator {
-        BinaryOperator::Addition => Some(IntegerOperator::Addition),
-        BinaryOperator::Subtraction => Some(IntegerOperator::Subtraction),
-        BinaryOperator::Multiplication => Some(IntegerOperator::Multiplication),
-        BinaryOperator::Division => Some(IntegerOperator::Division),
-        BinaryOperator::Remainder => Some(IntegerOperator::Remainder),
-        BinaryOperator::BitwiseOr => Some(IntegerOperator::BitwiseOr),
-        BinaryOperator::BitwiseAnd => Some(IntegerOperator::BitwiseAnd),
-        BinaryOperator::BitwiseXor => Some(IntegerOperator::BitwiseXor),
-        _ => None,
-    }
-}
-
-fn compared(operator: BinaryOperator, x: Integer, y: Integer) -> Computed {
-    let order = match compare(x, y) {
-        Ok(order) => order,
-        Err(error) => return Err(said(error)),
-    };
-    let holds = match operator {
-        BinaryOperator::Equality => order == Ordering::Equal,
-        BinaryOperator::Inequality => order != Ordering::Equal,
-        BinaryOperator::LessThan => order == Ordering::Less,
-        BinaryOperator::LessThanEqual => order != Ordering::Greater,
-        BinaryOperator::GreaterThan => order == Ordering::Greater,
-        BinaryOperator::GreaterThanEqual => order != Ordering::Less,
-        _ => return Ok(None),
-    };
-    Ok(Some(Value::One(Constant::Bool(holds))))
 }
 
 /// The value of `false && x` and `true || x`, whatever `x` is.
@@ -180,11 +117,7 @@ pub fn call_value(name: &str, template: Option<&Type>, values: &[Option<Value>])
         _ => Function::named(name),
     };
     match function {
-        Some(function) => match function.apply(arguments) {
-            Ok(constant) => Ok(Some(Value::One(constant))),
-            Err(CallError::Integer(error)) => Err(said(error)),
-            Err(_) => Ok(None),
-        },
+        Some(function) => of_constants(function.apply(arguments)),
         None => Ok(None),
     }
 }

@@ -7,7 +7,7 @@ ghost use Rattle.wgsl_spelling.specs.Operators.{unary_of};
 ghost use Rattle.wgsl_standard.specs.Callees.{a_unary};
 ghost use Rattle.wgsl_standard.specs.Resolved.{resolved_view};
 ghost use Rattle.wgsl_typing.specs.Names.{HasValue};
-ghost use Rattle.wgsl_typing.specs.Outcomes.{HasResult, HasType, IsFormed, IsOverloaded, IsUnary, loaded, or_faulty, resolved, shown};
+ghost use Rattle.wgsl_typing.specs.Outcomes.{HasResult, HasType, IsFormed, IsOverloaded, IsUnary, loaded, or_faulty, resolved, shown, shown_type};
 ghost use Rattle.wgsl_typing.specs.Operators.{AnOperator, Brackets, IsUnaryOf, Unary, is_short_circuit};
 ghost use Rattle.wgsl_typing.specs.Stacks.{below, part_of, sign_on, stack, with_item, with_items};
 ghost use Rattle.wgsl_typing.specs.Words.{kind_at};
@@ -225,7 +225,10 @@ impl<'t> Expressions<'t> {
             return Ok(Outcome::Faulty);
         };
         let value = match x.value {
-            Some(value) => self.computed(place, unary_value(operator, value))?,
+            Some(value) => {
+                let sign = self.token_before(count).kind;
+                self.computed(place, unary_value(sign, value))?
+            }
             None => None,
         };
         Ok(of_call(call, x.stage, value))
@@ -322,9 +325,16 @@ fn may_decide(operator: Kind, left: &Part) -> bool {
 pub fn shown(x: &Typed) -> Operand<'_>
     ensures { given result ≡ shown x.now }
 {
+    Operand::of(shown_type(x), x.stage.is_const())
+}
+
+/// The type that is shown: of a swizzle of a reference that of its value.
+pub fn shown_type(x: &Typed) -> &Type
+    ensures { view result.now ≡ shown_type x.now.referent (view x.now.ty) }
+{
     match x.referent {
-        Referent::Swizzle => Operand::of(behind(&x.ty), x.stage.is_const()),
-        _ => x.operand(),
+        Referent::Swizzle => behind(&x.ty),
+        _ => &x.ty,
     }
 }
 

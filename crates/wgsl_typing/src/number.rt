@@ -1,13 +1,12 @@
 // Literals (WGSL, "Literals").
 ghost use Rattle.std.specs.Prelude.{◌≡◌, IfOk, Some};
-ghost use Rattle.wgsl_constants.specs.Literals.{ends_with, is_hexadecimal};
 ghost use Rattle.wgsl_constants.specs.Values.{map_value};
 ghost use Rattle.wgsl_core.specs.View.{view};
 ghost use Rattle.wgsl_forms.specs.declared.form.Referent.TheVariants.{Whole};
 ghost use Rattle.wgsl_names.specs.declared.stage.Stage.TheVariants.{Const};
 ghost use Rattle.wgsl_names.specs.declared.value.Value.TheVariants.{One};
 ghost use Rattle.wgsl_rules.specs.types.Types.{scalar};
-ghost use Rattle.wgsl_typing.specs.Literals.{IsLiteral, Literal, a_float, float_of, float_type, has_binary_exponent, has_exponent, has_leading_zero, has_point, if_enabled, integer_type, is_float, is_half, is_no_float, literal, number};
+ghost use Rattle.wgsl_typing.specs.Literals.{IsLiteral, Literal, a_float, float_type, integer_type, literal, number};
 ghost use Rattle.wgsl_typing.specs.Names.{HasValue, context, word_in};
 ghost use Rattle.wgsl_typing.specs.Outcomes.{HasType};
 ghost use Rattle.wgsl_typing.specs.Stacks.{stack};
@@ -18,7 +17,7 @@ use crate::expressions::Expressions;
 use std::alloc::AllocError;
 use wgsl_constants::constant::Constant;
 use wgsl_constants::integer::Integer;
-use wgsl_constants::literal::{LiteralError, integer_of};
+use wgsl_constants::literal::{LiteralError, integer_of, type_of_number};
 use wgsl_core::ty::Type;
 use wgsl_names::fault::{Place, Rule};
 use wgsl_names::known::Outcome;
@@ -51,27 +50,27 @@ impl<'t> Expressions<'t> {
         ensures stack { stack self.new ≡ stack self.old }
     {
         let word = self.word(count);
-        let why = match integer_of(word.as_bytes()) {
-            Ok(integer) => {
-                return Ok(one(type_of_integer(integer), Constant::Integer(integer)));
-            }
-            Err(LiteralError::Overflow) => "is too large for its type",
-            Err(LiteralError::NotInteger) => "is no number",
-        };
-        match float_of(word.as_bytes()) {
-            Some(scalar) => self.float(count, scalar),
-            None => self.faulty(Rule::Value, count, why),
+        match integer_of(word.as_bytes()) {
+            Ok(integer) => Ok(one(type_of_integer(integer), Constant::Integer(integer))),
+            Err(error) => self.float(count, type_of_number(word.as_bytes()), error),
         }
     }
 
-    fn float(&mut self, count: usize, scalar: Scalar) -> Result<Outcome, AllocError>
-        ensures outcome { IfOk result (IsLiteral (map_value a_float (if_enabled self.old.extensions.f16 scalar))) }
+    /// A number of this type that is no integer, for this reason.
+    fn float(&mut self, count: usize, scalar: Scalar, error: LiteralError) -> Result<Outcome, AllocError>
+        ensures outcome { IfOk result (IsLiteral (map_value a_float (float_type self.old.extensions.f16 scalar))) }
         ensures stack { stack self.new ≡ stack self.old }
     {
-        if is_half(scalar) && !self.extensions.f16 {
-            return self.faulty(Rule::Extension, count, "needs `enable f16;`");
+        match float_type(self.extensions.f16, scalar) {
+            Some(scalar) => Ok(with_value(Type::from(scalar), Stage::Const, None)),
+            None => match (scalar, error) {
+                (Scalar::F16, _) => self.faulty(Rule::Extension, count, "needs `enable f16;`"),
+                (_, LiteralError::Overflow) => {
+                    self.faulty(Rule::Value, count, "is too large for its type")
+                }
+                (_, LiteralError::NotInteger) => self.faulty(Rule::Value, count, "is no number"),
+            },
         }
-        Ok(with_value(Type::from(scalar), Stage::Const, None))
     }
 }
 
@@ -93,93 +92,13 @@ fn type_of_integer(integer: Integer) -> Type
     }
 }
 
-fn is_half(scalar: Scalar) -> bool
-    ensures { result ≡ is_half scalar }
+/// The type of a float; None of any other type, and of `f16` if it isn't enabled.
+fn float_type(f16: bool, scalar: Scalar) -> Option<Scalar>
+    ensures { result ≡ float_type f16 scalar }
 {
-    matches!(scalar, Scalar::F16)
-}
-
-/// The type of a literal that is a float, if it is one.
-fn float_of(text: &[u8]) -> Option<Scalar>
-    ensures { result ≡ float_of text.now }
-{
-    if is_float(text) && !is_no_float(text) {
-        return Some(float_type(text));
-    }
-    None
-}
-
-/// Whether a number is a float by its point, its exponent or its suffix.
-fn is_float(text: &[u8]) -> bool
-    ensures { result ≡ is_float text.now }
-{
-    match is_hexadecimal(text) {
-        true => has_point(text) || has_binary_exponent(text),
-        false => {
-            has_point(text) || has_exponent(text) || text.contains(&b'f') || text.contains(&b'h')
-        }
-    }
-}
-
-/// Whether a number with an integer's suffix, or with a zero in front, is no float.
-fn is_no_float(text: &[u8]) -> bool
-    ensures { result ≡ is_no_float text.now }
-{
-    ends_with(text, b'i')
-        || ends_with(text, b'u')
-        || has_leading_zero(text) && !(has_point(text) || has_exponent(text))
-}
-
-fn float_type(text: &[u8]) -> Scalar
-    ensures { result ≡ float_type text.now }
-{
-    if is_hexadecimal(text) && !has_binary_exponent(text) {
-        Scalar::AbstractFloat
-    } else if ends_with(text, b'f') {
-        Scalar::F32
-    } else if ends_with(text, b'h') {
-        Scalar::F16
-    } else {
-        Scalar::AbstractFloat
-    }
-}
-
-fn is_hexadecimal(text: &[u8]) -> bool
-    ensures { result ≡ is_hexadecimal text.now }
-{
-    matches!(text, [b'0', b'x' | b'X', ..])
-}
-
-fn has_point(text: &[u8]) -> bool
-    ensures { result ≡ has_point text.now }
-{
-    text.contains(&b'.')
-}
-
-fn has_exponent(text: &[u8]) -> bool
-    ensures { result ≡ has_exponent text.now }
-{
-    text.contains(&b'e') || text.contains(&b'E')
-}
-
-fn has_binary_exponent(text: &[u8]) -> bool
-    ensures { result ≡ has_binary_exponent text.now }
-{
-    text.contains(&b'p') || text.contains(&b'P')
-}
-
-/// Whether a digit stands behind a zero in front.
-fn has_leading_zero(text: &[u8]) -> bool
-    ensures { result ≡ has_leading_zero text.now }
-{
-    matches!(text, [b'0', b'0'..=b'9', ..])
-}
-
-fn ends_with(text: &[u8], byte: u8) -> bool
-    ensures { result ≡ ends_with byte text.now }
-{
-    match text {
-        [.., last] => *last == byte,
-        [] => false,
+    match scalar {
+        Scalar::F16 if !f16 => None,
+        Scalar::AbstractFloat | Scalar::F32 | Scalar::F16 => Some(scalar),
+        _ => None,
     }
 }
