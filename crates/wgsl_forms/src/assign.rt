@@ -1,37 +1,16 @@
 // Assignments, increments and decrements.
 ghost use Rattle.std.specs.Prelude.{◌≡◌, ◌↔◌, [], ◌∷◌, IsTrue, Some, option_map};
-ghost use Rattle.std.specs.Result.{result_unwrap_or};
-ghost use Rattle.wgsl_syntax.specs.declared.address.AccessMode.TheVariants.{ReadWrite};
-ghost use Rattle.wgsl_rules.specs.types.Types.{scalar as scalar_type, within};
-ghost use Rattle.wgsl_rules.specs.standard.Answers.{IsStandardAnswer};
-ghost use Rattle.wgsl_rules.specs.standard.Operators.{binary_overloads as binary_there};
-ghost use Rattle.wgsl_rules.specs.standard.Overloads.{type_with};
-ghost use Rattle.wgsl_core.specs.Equality.{type_eq};
-ghost use Rattle.wgsl_core.specs.View.{view};
-ghost use Rattle.wgsl_standard.specs.Operands.{given_type, operand_view};
+ghost use Rattle.wgsl_forms.specs.Prelude.{result_unwrap_or, ReadWrite, scalar as scalar_type, within, IsStandardAnswer, binary_overloads as binary_there};
+ghost use Rattle.wgsl_forms.specs.Prelude.{type_with, type_eq, view, given_type, operand_view};
 ghost use Rattle.wgsl_forms.specs.Assign.{IsAssigned, IsAssignedBy, IsCompound, IsCompoundTo, assigned, assigned_to, compound as compound_there, incremented, incremented_in, is_counter as counter, operator_of, written};
 ghost use Rattle.wgsl_forms.specs.Load.{loaded};
 ghost use Rattle.wgsl_forms.specs.Views.{answer_view, given};
 ghost use Rattle.wgsl_forms.specs.internal.Values.{result_value as value_there};
 
-use crate::concrete::has_abstract_type;
-use crate::convert::{converts, has_layer, has_scalar};
-use crate::form::UnbuiltType;
-use crate::kinds::operand_is_constructible;
-use crate::load::load_type;
-use crate::refusal::Refusal;
-use wgsl_core::ty::Type;
-use wgsl_core::ty::form::Form;
-use wgsl_standard::operand::{Operand, OperandType};
+use crate::prelude::*;
 use wgsl_standard::operators::binary_overloads;
 use wgsl_standard::overload::result_of;
 use wgsl_standard::resolve::resolve;
-use wgsl_standard::substitution::{component_in, dimensions_in};
-use wgsl_syntax::address::AccessMode;
-use wgsl_syntax::layer::Layer;
-use wgsl_syntax::operator::{AssignmentOperator, BinaryOperator};
-use wgsl_syntax::overload::{Dimensions, Overload, Pattern, Returns, Substitution};
-use wgsl_syntax::scalar::Scalar;
 
 /// The type to which `x = y` writes: that of what `x` refers to (WGSL, "Simple Assignment"). Refused, in this order, by
 /// `NotReference`, `NotWrite`, `NotConstructible`, the load of `y`, `WriteRefType`.

@@ -1,26 +1,12 @@
 // Declarations without memory, and the phony assignment.
 ghost use Rattle.std.specs.Prelude.{◌≡◌, option_map};
-ghost use Rattle.wgsl_core.specs.View.{view};
-ghost use Rattle.wgsl_standard.specs.Operands.{given_type};
-ghost use Rattle.wgsl_rules.specs.types.Types.{scalar as scalar_type};
+ghost use Rattle.wgsl_forms.specs.Prelude.{view, given_type, scalar as scalar_type, Let};
 ghost use Rattle.wgsl_forms.specs.Concrete.{concrete_of};
 ghost use Rattle.wgsl_forms.specs.Convert.{converted};
-ghost use Rattle.wgsl_forms.specs.declared.declare.Declaration.TheVariants.{Let};
 ghost use Rattle.wgsl_forms.specs.Declare.{declared, is_const_type as may_be_const, is_let_type as may_be_named, is_override_type as may_be_override, may_be_let as may_be_let_there, named_by_const, named_by_let, named_by_override, overridden, taken, taken_loaded};
 ghost use Rattle.wgsl_forms.specs.Views.{answer_view, given, unbuilt_view};
 
-use crate::concrete::{concrete_scalar, has_abstract_type, made_concrete};
-use crate::convert::converts;
-use crate::expression::is_const_expression;
-use crate::form::UnbuiltType;
-use crate::kinds::{is_constructible, is_handle, operand_is_constructible};
-use crate::load::load_type;
-use crate::refusal::Refusal;
-use wgsl_core::ty::Type;
-use wgsl_core::ty::form::Form;
-use wgsl_standard::operand::{Operand, OperandType};
-use wgsl_syntax::overload::Dimensions;
-use wgsl_syntax::scalar::Scalar;
+use crate::prelude::*;
 
 /// A declaration without memory.
 #[derive(Clone, Copy)]

@@ -1,19 +1,10 @@
 // Conditions, and the values that functions return.
 ghost use Rattle.std.specs.Prelude.{◌≡◌};
-ghost use Rattle.wgsl_core.specs.View.{view};
-ghost use Rattle.wgsl_standard.specs.Operands.{given_type};
+ghost use Rattle.wgsl_forms.specs.Prelude.{view, given_type};
 ghost use Rattle.wgsl_forms.specs.Flow.{condition as condition_there, condition_loaded, is_bool as is_bool_there, returned as returned_there, returned_loaded};
 ghost use Rattle.wgsl_forms.specs.Views.{answer_view, unbuilt_view};
 
-use crate::convert::converts;
-use crate::declare::is_const_type;
-use crate::form::UnbuiltType;
-use crate::load::load_type;
-use crate::refusal::Refusal;
-use wgsl_core::ty::Type;
-use wgsl_standard::operand::{Operand, OperandType};
-use wgsl_syntax::overload::Dimensions;
-use wgsl_syntax::scalar::Scalar;
+use crate::prelude::*;
 
 /// The type of the condition of `if`, `while`, `for`, `break if` or `const_assert`, `bool` (WGSL, "Control Flow"). Refused
 /// by the load, or by `NotCondition` of any other type.

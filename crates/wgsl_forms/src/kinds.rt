@@ -1,13 +1,9 @@
 // The kinds of types that loads and declarations distinguish.
 ghost use Rattle.std.specs.Prelude.{◌≡◌};
-ghost use Rattle.wgsl_core.specs.View.{view, member_view};
-ghost use Rattle.wgsl_core.specs.internal.View.{members_view};
-ghost use Rattle.wgsl_standard.specs.Operands.{given_type};
+ghost use Rattle.wgsl_forms.specs.Prelude.{view, member_view, members_view, given_type};
 ghost use Rattle.wgsl_forms.specs.Kinds.{has_fixed_footprint as fixed_there, have_fixed_footprint as all_fixed_there, is_constructible as constructible, is_handle as handle, is_host_shareable as host_shareable, are_host_shareable as all_host_shareable, has_no_array as no_array_there, have_no_array as no_arrays_there};
 
-use wgsl_core::ty::form::Form;
-use wgsl_core::ty::{StructMemberType, Type};
-use wgsl_standard::operand::OperandType;
+use crate::prelude::*;
 
 /// Whether values of the type have one size: a scalar, a vector, a matrix, an array with a count or a struct, of such types,
 /// and perhaps atomics (WGSL, "Fixed-Footprint Types").

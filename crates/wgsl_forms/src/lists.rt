@@ -1,21 +1,10 @@
 // Values of a list: arguments of functions and of constructors, conditions and returned values.
 ghost use Rattle.std.specs.Prelude.{◌≡◌, length, map};
-ghost use Rattle.wgsl_core.specs.View.{view};
-ghost use Rattle.wgsl_core.specs.internal.View.{members_view};
-ghost use Rattle.wgsl_standard.specs.Operands.{given_type};
-ghost use Rattle.wgsl_standard.specs.Texts.{types_given};
+ghost use Rattle.wgsl_forms.specs.Prelude.{view, members_view, given_type, types_given};
 ghost use Rattle.wgsl_forms.specs.Lists.{all_fit as all_fit_there, are_parameters as parameters_there, constructed, counted, each_fits as each_fits_there, fits as fits_there, list_fits, member_types, members_fit as members_fit_there, value_fits, taker_name, values_fit, words_of as words_there};
 ghost use Rattle.wgsl_forms.specs.Views.{answer_view, refusal_view, taker_view};
 
-use crate::convert::converts;
-use crate::declare::is_let_type;
-use crate::form::UnbuiltType;
-use crate::kinds::is_constructible;
-use crate::load::load_type;
-use crate::refusal::Refusal;
-use wgsl_core::ty::form::Form;
-use wgsl_core::ty::{StructMemberType, Type};
-use wgsl_standard::operand::{Operand, OperandType};
+use crate::prelude::*;
 
 /// What takes values.
 #[derive(Clone, Copy)]

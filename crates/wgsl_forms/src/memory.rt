@@ -1,15 +1,10 @@
 // The types to which references and pointers refer.
 ghost use Rattle.std.specs.Prelude.{◌≡◌};
-ghost use Rattle.wgsl_core.specs.View.{view};
-ghost use Rattle.wgsl_standard.specs.Operands.{given_type};
+ghost use Rattle.wgsl_forms.specs.Prelude.{view, given_type};
 ghost use Rattle.wgsl_forms.specs.Memory.{behind as lies_behind, memory_of};
 ghost use Rattle.wgsl_forms.specs.internal.References.{reference_to as reference_there};
 
-use crate::form::{MemoryView, Referent};
-use wgsl_core::ty::Type;
-use wgsl_core::ty::form::Form;
-use wgsl_standard::operand::OperandType;
-use wgsl_syntax::address::{AccessMode, AddressSpace};
+use crate::prelude::*;
 
 /// The type to which a reference or a pointer refers; any other type itself.
 #[derive(Clone, Copy)]
