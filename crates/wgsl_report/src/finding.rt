@@ -1,18 +1,23 @@
 // Broken rules of address spaces, and what would fix them.
 
 use crate::place::Place;
-use crate::write::{Piece, write_all};
-use std::alloc::AllocError;
+use crate::write::{IfKnown, Written};
 
-/// A rule that a variable or a member of a struct breaks, at an index of the text.
+/// A variable or a member of a struct, at an index of the text.
 #[derive(Clone, Copy)]
-pub struct Finding<'a> {
+pub struct Subject<'a> {
     pub at: usize,
     /// The struct, if it is a member.
     pub of: Option<&'a str>,
     pub name: &'a str,
     /// None if the rule is for every struct, or for the whole module.
     pub place: Option<Place>,
+}
+
+/// A rule that is broken.
+#[derive(Clone, Copy)]
+pub struct Finding<'a> {
+    pub subject: Subject<'a>,
     pub trouble: Trouble,
     /// Whether `requires uniform_buffer_standard_layout;` lifts the rule here.
     pub is_lifted: bool,
@@ -108,46 +113,29 @@ impl Trouble {
 
 impl<'a> Finding<'a> {
     /// Writes the message.
-    pub fn write_to(&self, output: &mut String) -> Result<(), AllocError> {
-        let trouble = self.trouble;
+    pub fn write_to(&self, output: &mut String) -> Written {
+        let (trouble, Subject { of, name, .. }) = (self.trouble, self.subject);
+        match of {
+            Some(of) => write!(output, "`{of}.{name}` ")?,
+            None => write!(output, "`{name}` ")?,
+        }
+        let (start, needs, end) = (trouble.start(), trouble.needs(), trouble.end());
         let (number, mending) = trouble.numbers();
-        self.write_name(output)?;
-        let lifted = if self.is_lifted {
+        let (number, mending) = (IfKnown("", number, ""), IfKnown("", mending, ""));
+        match self.subject.place {
+            Some(place) => {
+                let place = place.text();
+                write!(
+                    output,
+                    "{start}{number}; in `{place}` {needs}{mending}{end}"
+                )?
+            }
+            None => write!(output, "{start}{number}; {needs}{mending}{end}")?,
+        }
+        output.push_str(if self.is_lifted {
             " (`requires uniform_buffer_standard_layout;` lifts this rule)"
         } else {
             ""
-        };
-        let (before, place, behind) = match self.place {
-            Some(place) => ("; in `", place.text(), "` "),
-            None => ("; ", "", ""),
-        };
-        let pieces = [
-            Piece::Text(trouble.start()),
-            Piece::Number(number),
-            Piece::Text(before),
-            Piece::Text(place),
-            Piece::Text(behind),
-            Piece::Text(trouble.needs()),
-            Piece::Number(mending),
-            Piece::Text(trouble.end()),
-            Piece::Text(lifted),
-        ];
-        write_all(output, &pieces)
-    }
-
-    /// Writes the name of the variable, or the names of the struct and its member.
-    fn write_name(&self, output: &mut String) -> Result<(), AllocError> {
-        let (of, dot) = match self.of {
-            Some(of) => (of, "."),
-            None => ("", ""),
-        };
-        let pieces = [
-            Piece::Text("`"),
-            Piece::Text(of),
-            Piece::Text(dot),
-            Piece::Text(self.name),
-            Piece::Text("` "),
-        ];
-        write_all(output, &pieces)
+        })
     }
 }
