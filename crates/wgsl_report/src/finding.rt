@@ -1,7 +1,6 @@
 // Broken rules of address spaces, and what would fix them.
 
-use crate::place::Place;
-use crate::write::{IfKnown, Written};
+use crate::prelude::*;
 
 /// A variable or a member of a struct, at an index of the text.
 #[derive(Clone, Copy)]

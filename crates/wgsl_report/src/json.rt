@@ -1,20 +1,8 @@
 // Layouts and bindings as an object of JSON.
 
-use crate::lines::Lines;
-use crate::message::{Message, Severity};
-use crate::resource::write_buffer;
-use crate::shown::once;
-use crate::source::Source;
-use crate::told::{end_of, min_binding_size, padding, stride_of};
+use crate::prelude::*;
 use crate::tree::write_tree;
-use crate::type_text::type_text;
-use crate::write::{Escaped, Fields, OrNull, Written};
 use wgsl_source::entry::{EntryPoint, Override, WorkgroupExtent};
-use wgsl_source::measured::MeasuredType;
-use wgsl_source::structure::{Member, Struct};
-use wgsl_source::variable::Variable;
-use wgsl_syntax::address::AddressSpace;
-use wgsl_syntax::rules::RuleSet;
 
 /// Writes the chosen structs and all else of a module, on one line.
 pub fn write_json(output: &mut String, source: Source) -> Written {

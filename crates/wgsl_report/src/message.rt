@@ -1,17 +1,10 @@
 // What is wrong with a text: its errors, and its findings.
 
-use crate::finding::Finding;
 use crate::keyword::meant_at;
-use crate::write::{Visible, Written};
-use std::alloc::{AllocError, Global};
+use crate::prelude::*;
 use std::fmt::Debug;
 use wgsl_reader::expected::{expected, may_stand_behind};
-use wgsl_reader::kind::Kind;
-use wgsl_reader::module::Misread;
-use wgsl_source::fault::{Cause, Fault};
 use wgsl_source::meant::{Declared, meant};
-use wgsl_source::module::Module;
-use wgsl_source::text::Text;
 use wgsl_spelling::fault::Cause as SpellingCause;
 
 /// How severe a message is.

@@ -1,24 +1,13 @@
 // Reports on texts.
 
 use crate::choice::{Choice, choose};
-use crate::forms::names::Language;
 use crate::forms::numpy::write_numpy;
 use crate::forms::structs::write_structs;
 use crate::forms::typescript::write_typescript;
 use crate::json::write_json;
-use crate::lines::Lines;
-use crate::message::messages_of;
+use crate::prelude::*;
 use crate::rules::findings_of;
-use crate::shown::{Style, write_messages};
-use crate::source::Source;
 use crate::table::write_tables;
-use crate::write::Written;
-use std::alloc::{AllocError, Global};
-use std::str::from_utf8;
-use wgsl_reader::module::Misread;
-use wgsl_source::fault::{Cause, Fault};
-use wgsl_source::module::{Module, read_module};
-use wgsl_source::text::{Text, tokens};
 
 /// How a report is written.
 #[derive(Clone, Copy, PartialEq, Eq)]

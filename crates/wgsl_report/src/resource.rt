@@ -1,9 +1,6 @@
 // What is bound to a variable, in the words of a WebGPU bind group layout.
 
-use crate::write::Written;
-use wgsl_syntax::address::{AccessMode, AddressSpace};
-use wgsl_syntax::rules::RuleSet;
-use wgsl_syntax::texture::{SampledType, SamplerType, TextureDimensions, TextureType};
+use crate::prelude::*;
 use wgsl_syntax::texture_name::TextureParameters;
 
 /// Writes what is bound to a variable of this address space whose type is no texture, sampler or the like.

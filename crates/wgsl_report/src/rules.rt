@@ -6,19 +6,7 @@ ghost use Rattle.wgsl_report.specs.Extent.{extent_of};
 use crate::extent::{
     content_of, extent_of, innermost, is_runtime_sized, position_of, shape_of, stride_too_close,
 };
-use crate::finding::{Finding, Subject, Trouble};
-use crate::place::Place;
-use crate::spaces::content::{Content, may_be_innermost, may_hold};
-use crate::spaces::layout::{
-    Position, Rule, broken_rule, is_align_attribute, is_lifted, required_align, up_to_16,
-};
-use crate::write::Written;
-use std::alloc::{AllocError, Global};
-use wgsl_source::measured::{MeasuredType, TypeKind};
-use wgsl_source::module::Module;
-use wgsl_source::structure::{Member, Struct};
-use wgsl_source::variable::Variable;
-use wgsl_syntax::address::AddressSpace;
+use crate::prelude::*;
 
 /// The state of checking the variables of a module.
 #[derive(Drop)]

@@ -1,12 +1,7 @@
 // Messages for people, with the line that each is about.
 
-use crate::lines::{Lines, Place};
-use crate::message::{Message, Severity};
-use crate::source::Source;
-use crate::write::Written;
-use std::alloc::{AllocError, Global};
-use std::collections::BTreeMap;
-use std::str::from_utf8;
+use crate::lines::Place;
+use crate::prelude::*;
 
 /// How messages for people look.
 #[derive(Clone, Copy, PartialEq, Eq)]

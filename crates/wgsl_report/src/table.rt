@@ -1,14 +1,6 @@
 // Layouts and bindings as tables, for people.
 
-use crate::place::Place;
-use crate::shown::{Style, write_messages};
-use crate::source::Source;
-use crate::told::{end_of, min_binding_size, padding, stride_of};
-use crate::type_text::type_text;
-use crate::write::{IfKnown, Written};
-use wgsl_source::measured::MeasuredType;
-use wgsl_source::structure::{Member, Struct};
-use wgsl_source::variable::Variable;
+use crate::prelude::*;
 
 /// Writes the chosen structs; the variables, unless structs are asked about by name; and what is wrong.
 pub fn write_tables(output: &mut String, source: Source, style: Style) -> Written {

@@ -1,12 +1,6 @@
 // Types as trees of JSON.
 
-use crate::layers::inside;
-use crate::resource::{write_sampler, write_texture};
-use crate::told::stride_of;
-use crate::write::{Escaped, OrNull, Written};
-use wgsl_source::measured::{MeasuredType, TypeKind};
-use wgsl_source::module::Module;
-use wgsl_syntax::scalar::Scalar;
+use crate::prelude::*;
 
 /// Writes a type as an object of JSON, with the types inside it as objects in that.
 pub fn write_tree(output: &mut String, module: &Module, ty: MeasuredType) -> Written {

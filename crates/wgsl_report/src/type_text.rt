@@ -1,13 +1,7 @@
 // Types as WGSL spells them.
 
-use crate::layers::inside;
-use crate::write::Written;
-use std::alloc::{AllocError, Global};
-use wgsl_source::measured::{Count, MeasuredType, TypeKind};
-use wgsl_source::module::Module;
+use crate::prelude::*;
 use wgsl_syntax::attribute::AccelerationStructureFlags;
-use wgsl_syntax::rules::RuleSet;
-use wgsl_syntax::texture::ShownTexture;
 
 /// The spelling of a type.
 pub fn type_text(alloc: Global, module: &Module, ty: MeasuredType) -> Result<String, AllocError> {

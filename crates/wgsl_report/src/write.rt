@@ -1,9 +1,8 @@
 // How reports write what isn't a plain text or number.
 
 use crate::lines::Place;
-use std::alloc::AllocError;
+use crate::prelude::*;
 use std::fmt;
-use std::fmt::Write;
 
 /// What writing returns: it fails only if memory runs out.
 pub type Written = Result<(), AllocError>;
@@ -29,7 +28,7 @@ pub struct OrNull(pub Option<u32>);
 pub struct IfKnown<'a>(pub &'a str, pub Option<u32>, pub &'a str);
 
 impl fmt::Display for Escaped<'_> {
-    fn fmt<W: Write>(&self, f: &mut fmt::Formatter<W>) -> fmt::Result {
+    fn fmt<W: fmt::Write>(&self, f: &mut fmt::Formatter<W>) -> fmt::Result {
         for letter in self.0.chars() {
             match letter {
                 '"' => f.write_str("\\\"")?,
@@ -46,7 +45,7 @@ impl fmt::Display for Escaped<'_> {
 }
 
 impl fmt::Display for Visible<'_> {
-    fn fmt<W: Write>(&self, f: &mut fmt::Formatter<W>) -> fmt::Result {
+    fn fmt<W: fmt::Write>(&self, f: &mut fmt::Formatter<W>) -> fmt::Result {
         for letter in self.0.chars() {
             f.write_char(if letter.is_control() { ' ' } else { letter })?;
         }
@@ -55,7 +54,7 @@ impl fmt::Display for Visible<'_> {
 }
 
 impl fmt::Display for Fields {
-    fn fmt<W: Write>(&self, f: &mut fmt::Formatter<W>) -> fmt::Result {
+    fn fmt<W: fmt::Write>(&self, f: &mut fmt::Formatter<W>) -> fmt::Result {
         let Place {
             line,
             column,
@@ -69,7 +68,7 @@ impl fmt::Display for Fields {
 }
 
 impl fmt::Display for OrNull {
-    fn fmt<W: Write>(&self, f: &mut fmt::Formatter<W>) -> fmt::Result {
+    fn fmt<W: fmt::Write>(&self, f: &mut fmt::Formatter<W>) -> fmt::Result {
         match self.0 {
             Some(number) => write!(f, "{number}"),
             None => f.write_str("null"),
@@ -78,7 +77,7 @@ impl fmt::Display for OrNull {
 }
 
 impl fmt::Display for IfKnown<'_> {
-    fn fmt<W: Write>(&self, f: &mut fmt::Formatter<W>) -> fmt::Result {
+    fn fmt<W: fmt::Write>(&self, f: &mut fmt::Formatter<W>) -> fmt::Result {
         match self.1 {
             Some(number) => write!(f, "{}{number}{}", self.0, self.2),
             None => Ok(()),

@@ -2,10 +2,7 @@
 
 use crate::forms::reserved::{is_c_name, is_python_name, is_rust_keyword, is_rust_type};
 use crate::forms::settled::is_settled;
-use crate::write::Written;
-use std::alloc::{AllocError, Global};
-use std::collections::BTreeSet;
-use wgsl_syntax::scalar::Scalar;
+use crate::prelude::*;
 
 #[derive(Clone, Copy, PartialEq, Eq)]
 pub enum Language {

@@ -1,14 +1,7 @@
 // Structs as dtypes of numpy.
 
-use crate::forms::fields::struct_names;
-use crate::forms::names::{Language, Names};
-use crate::layers::{Base, Shape, shape_of};
-use crate::source::Source;
-use crate::write::Written;
-use std::alloc::{AllocError, Global};
-use wgsl_source::measured::MeasuredType;
-use wgsl_source::module::Module;
-use wgsl_source::structure::Struct;
+use crate::layers::Shape;
+use crate::prelude::*;
 
 /// Writes the chosen structs, each after those inside it.
 pub fn write_numpy(output: &mut String, source: Source) -> Written {

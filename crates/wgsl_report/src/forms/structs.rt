@@ -1,14 +1,6 @@
 // Structs with their padding as fields, in C and in Rust.
 
-use crate::forms::fields::{Field, fields_of, struct_names};
-use crate::forms::names::{Language, Names};
-use crate::layers::{Base, shape_of};
-use crate::source::Source;
-use crate::write::Written;
-use std::alloc::{AllocError, Global};
-use std::collections::BTreeMap;
-use wgsl_source::module::Module;
-use wgsl_source::structure::Struct;
+use crate::prelude::*;
 
 /// The beginning of a header in C11 or C++11.
 const C_HEAD: &str = "\

@@ -1,13 +1,6 @@
 // Structs and bindings as constants of TypeScript.
 
-use crate::source::Source;
-use crate::told::{min_binding_size, stride_of};
-use crate::type_text::type_text;
-use crate::write::{Escaped, IfKnown, OrNull, Written};
-use wgsl_source::measured::MeasuredType;
-use wgsl_source::structure::{Member, Struct};
-use wgsl_source::variable::Variable;
-use wgsl_syntax::rules::RuleSet;
+use crate::prelude::*;
 
 /// Writes the chosen structs; and the variables that are bound, unless structs are asked about by name.
 pub fn write_typescript(output: &mut String, source: Source) -> Written {
