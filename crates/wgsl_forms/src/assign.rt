@@ -2,7 +2,7 @@
 ghost use Rattle.std.specs.Prelude.{◌≡◌, ◌↔◌, [], ◌∷◌, IsTrue, Some, option_map};
 ghost use Rattle.wgsl_forms.specs.Prelude.{result_unwrap_or, ReadWrite, scalar as scalar_type, within, IsStandardAnswer, binary_overloads as binary_there};
 ghost use Rattle.wgsl_forms.specs.Prelude.{type_with, type_eq, view, given_type, operand_view};
-ghost use Rattle.wgsl_forms.specs.Assign.{IsAssigned, IsAssignedBy, IsCompound, IsCompoundTo, assigned, assigned_to, compound as compound_there, incremented, incremented_in, is_counter as counter, operator_of, written};
+ghost use Rattle.wgsl_forms.specs.Assign.{IsAssigned, IsAssignedBy, IsCompound, assigned, assigned_to, compound as compound_there, incremented, incremented_in, operator_of};
 ghost use Rattle.wgsl_forms.specs.Load.{loaded};
 ghost use Rattle.wgsl_forms.specs.Views.{answer_view, given};
 ghost use Rattle.wgsl_forms.specs.internal.Values.{result_value as value_there};
@@ -21,17 +21,10 @@ pub fn assign<'a>(x: &Operand<'a>, y: &Operand<'a>) -> Result<&'a Type, Refusal<
 {
     match x.ty {
         OperandType::Value(_, _) => Err(Refusal::NotReference(UnbuiltType::of(x.ty))),
-        OperandType::Any(ty) => assign_type(ty, y.ty),
-    }
-}
-
-#[inline(always)]
-fn assign_type<'a>(x: &'a Type, y: OperandType<'a>) -> Result<&'a Type, Refusal<'a>>
-    ensures { answer_view (λ t. view t.now) result ≡ assigned (view x.now) (given_type y.entry) }
-{
-    match x.form() {
-        Form::Reference(_, stored, access) => assign_to(stored, access, y),
-        _ => Err(Refusal::NotReference(UnbuiltType::of_type(x))),
+        OperandType::Any(ty) => match ty.form() {
+            Form::Reference(_, stored, access) => assign_to(stored, access, y.ty),
+            _ => Err(Refusal::NotReference(UnbuiltType::of_type(ty))),
+        },
     }
 }
 
@@ -50,15 +43,7 @@ fn assign_to<'a>(
     if !operand_is_constructible(OperandType::of(stored)) {
         return Err(Refusal::NotConstructible(UnbuiltType::of_type(stored)));
     }
-    let loaded = load_type(y)?;
-    write_to(stored, loaded)
-}
-
-#[inline(always)]
-fn write_to<'a>(stored: &'a Type, value: OperandType<'a>) -> Result<&'a Type, Refusal<'a>>
-    ensures { answer_view (λ t. view t.now) result
-        ≡ written (view stored.now) (given_type value.entry) }
-{
+    let value = load_type(y)?;
     if converts(value, stored) {
         Ok(stored)
     } else {
@@ -73,42 +58,21 @@ pub fn increment<'a>(x: &Operand<'a>) -> Result<&'a Type, Refusal<'a>>
 {
     match x.ty {
         OperandType::Value(_, _) => Err(Refusal::NotReference(UnbuiltType::of(x.ty))),
-        OperandType::Any(ty) => increment_type(ty),
-    }
-}
-
-fn increment_type<'a>(x: &'a Type) -> Result<&'a Type, Refusal<'a>>
-    ensures { answer_view (λ t. view t.now) result ≡ incremented (view x.now) }
-{
-    match x.form() {
-        Form::Reference(_, stored, access) => increment_in(stored, access),
-        _ => Err(Refusal::NotReference(UnbuiltType::of_type(x))),
-    }
-}
-
-fn increment_in<'a>(stored: &'a Type, access: AccessMode) -> Result<&'a Type, Refusal<'a>>
-    ensures { answer_view (λ t. view t.now) result ≡ incremented_in (view stored.now) access }
-{
-    match access {
-        AccessMode::ReadWrite => count(stored),
-        _ => Err(Refusal::NotReadWrite),
+        OperandType::Any(ty) => match ty.form() {
+            Form::Reference(_, stored, AccessMode::ReadWrite) => count(stored),
+            Form::Reference(_, _, _) => Err(Refusal::NotReadWrite),
+            _ => Err(Refusal::NotReference(UnbuiltType::of_type(ty))),
+        },
     }
 }
 
 fn count<'a>(stored: &'a Type) -> Result<&'a Type, Refusal<'a>>
     ensures { answer_view (λ t. view t.now) result ≡ incremented_in (view stored.now) ReadWrite }
 {
-    if is_counter(stored) {
-        Ok(stored)
-    } else {
-        Err(Refusal::NotInteger(UnbuiltType::of_type(stored)))
+    match stored.form() {
+        Form::Scalar(Scalar::I32 | Scalar::U32) => Ok(stored),
+        _ => Err(Refusal::NotInteger(UnbuiltType::of_type(stored))),
     }
-}
-
-fn is_counter(ty: &Type) -> bool
-    ensures { result ≡ counter (view ty.now) }
-{
-    matches!(ty.form(), Form::Scalar(Scalar::I32 | Scalar::U32))
 }
 
 /// The type to which `x OP= y` writes (WGSL, "Compound Assignment"); by `=` that of `assign`. Refused, in this order, by
@@ -157,36 +121,11 @@ fn assign_with<'a>(
 {
     match x {
         OperandType::Value(_, _) => Err(Refusal::NotReference(UnbuiltType::of(x))),
-        OperandType::Any(ty) => assign_type_with(operator, ty, y),
-    }
-}
-
-fn assign_type_with<'a>(
-    operator: BinaryOperator,
-    x: &'a Type,
-    y: &Operand<'a>,
-) -> Result<&'a Type, Refusal<'a>>
-    ensures { IsAssignedBy operator (view x.now) (given y.now)
-        (answer_view (λ t. view t.now) result) }
-{
-    match x.form() {
-        Form::Reference(_, stored, access) => assign_in(operator, stored, access, y),
-        _ => Err(Refusal::NotReference(UnbuiltType::of_type(x))),
-    }
-}
-
-fn assign_in<'a>(
-    operator: BinaryOperator,
-    stored: &'a Type,
-    access: AccessMode,
-    y: &Operand<'a>,
-) -> Result<&'a Type, Refusal<'a>>
-    ensures { IsCompoundTo operator (view stored.now) access (given y.now)
-        (answer_view (λ t. view t.now) result) }
-{
-    match access {
-        AccessMode::ReadWrite => assign_result(operator, stored, y),
-        _ => Err(Refusal::NotReadWrite),
+        OperandType::Any(ty) => match ty.form() {
+            Form::Reference(_, stored, AccessMode::ReadWrite) => assign_result(operator, stored, y),
+            Form::Reference(_, _, _) => Err(Refusal::NotReadWrite),
+            _ => Err(Refusal::NotReference(UnbuiltType::of_type(ty))),
+        },
     }
 }
 

@@ -88,7 +88,10 @@ fn are_host_shareable(members: &Vec<StructMemberType>) -> bool
 fn is_concrete_number(scalar: Scalar) -> bool
     ensures { result ≡ concrete_number scalar }
 {
-    !matches!(scalar, Scalar::Bool | Scalar::AbstractInt | Scalar::AbstractFloat)
+    !matches!(
+        scalar,
+        Scalar::Bool | Scalar::AbstractInt | Scalar::AbstractFloat
+    )
 }
 
 /// Whether the type is no array, and no struct with one inside.

@@ -26,7 +26,10 @@ pub fn load_type<'a>(ty: OperandType<'a>) -> Result<OperandType<'a>, Refusal<'a>
 {
     match ty {
         OperandType::Value(_, _) => Ok(ty),
-        OperandType::Any(of) => load_any(of),
+        OperandType::Any(of) => match of.form() {
+            Form::Reference(_, stored, access) => load_stored(OperandType::of(stored), access),
+            _ => Ok(ty),
+        },
     }
 }
 
@@ -40,16 +43,6 @@ pub(crate) fn load_in<'a>(
     match memory {
         Some((_, access)) => load_stored(ty, access),
         None => load_type(ty),
-    }
-}
-
-#[inline(always)]
-fn load_any<'a>(ty: &'a Type) -> Result<OperandType<'a>, Refusal<'a>>
-    ensures { answer_view given_type result ≡ loaded (view ty.now) }
-{
-    match ty.form() {
-        Form::Reference(_, stored, access) => load_stored(OperandType::of(stored), access),
-        _ => Ok(OperandType::Any(ty)),
     }
 }
 

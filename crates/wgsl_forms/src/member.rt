@@ -118,12 +118,7 @@ fn are_distinct(letters: &[u8]) -> bool
 fn contains(letters: &[u8], letter: u8) -> bool
     ensures { result ≡ list_any (λ l. nat_eq l letter) letters.now }
 {
-    for other in letters {
-        if *other == letter {
-            return true;
-        }
-    }
-    false
+    letters.iter().any(|other| *other == letter)
 }
 
 /// What the name stands for in the type.
@@ -196,12 +191,7 @@ fn are_components(n: u8, name: &[u8]) -> bool
 fn are_among(n: u8, letters: Letters, name: &[u8]) -> bool
     ensures { result ≡ all_among (take n (letters_of letters)) name.now }
 {
-    for letter in name {
-        if !is_among(n, letters, *letter) {
-            return false;
-        }
-    }
-    true
+    name.iter().all(|letter| is_among(n, letters, *letter))
 }
 
 fn is_among(n: u8, letters: Letters, letter: u8) -> bool

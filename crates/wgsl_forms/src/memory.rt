@@ -22,23 +22,12 @@ pub(crate) fn behind(ty: OperandType<'_>) -> Whole<'_>
 {
     match ty {
         OperandType::Value(_, _) => Whole { memory: None, ty },
-        OperandType::Any(of) => behind_type(of),
-    }
-}
-
-#[inline(always)]
-fn behind_type(ty: &Type) -> Whole<'_>
-    ensures memory { result.memory ≡ memory_of (view ty.now) }
-    ensures ty { given_type result.ty ≡ lies_behind (view ty.now) }
-{
-    match ty.form() {
-        Form::Reference(space, stored, access) | Form::Pointer(space, stored, access) => Whole {
-            memory: Some((space, access)),
-            ty: OperandType::Any(stored),
-        },
-        _ => Whole {
-            memory: None,
-            ty: OperandType::Any(ty),
+        OperandType::Any(of) => match of.form() {
+            Form::Reference(space, stored, access) | Form::Pointer(space, stored, access) => Whole {
+                memory: Some((space, access)),
+                ty: OperandType::Any(stored),
+            },
+            _ => Whole { memory: None, ty },
         },
     }
 }

@@ -1,7 +1,7 @@
 // Variables, and which types those of an address space can hold.
 ghost use Rattle.std.specs.Prelude.{◌≡◌, None, Some, option_map};
 ghost use Rattle.wgsl_forms.specs.Prelude.{reference, view, member_view, members_view, given_type};
-ghost use Rattle.wgsl_forms.specs.Variable.{access_of as access_there, ends_in_array as ends_there, has_initializer as initializer_there, holds as holds_there, initialized_in, initialized_variable as initialized_there, is_handle_or_array as handle_there, may_end as may_end_there, may_end_members as members_end_there, may_initialize as may_initialize_there, not_held as not_held_there, stored, variable as variable_there, variable_in};
+ghost use Rattle.wgsl_forms.specs.Variable.{access_of as access_there, ends_in_array as ends_there, has_initializer as initializer_there, holds as holds_there, initialized_variable as initialized_there, is_handle_or_array as handle_there, may_end as may_end_there, may_end_members as members_end_there, may_initialize as may_initialize_there, not_held as not_held_there, stored, variable as variable_there};
 ghost use Rattle.wgsl_forms.specs.Views.{answer_view, form_type_view, given, refusal_view, unbuilt_view};
 
 use crate::prelude::*;
@@ -20,15 +20,9 @@ fn members_end_in_array(atomics: bool, members: &[StructMemberType]) -> bool
     ensures { result ≡ members_end_there atomics (members_view members.now) }
 {
     match members.split_last() {
-        Some((last, rest)) => have_fixed_footprint(atomics, rest) && member_may_end(atomics, last),
+        Some((last, rest)) => have_fixed_footprint(atomics, rest) && may_end(atomics, &last.ty),
         None => true,
     }
-}
-
-fn member_may_end(atomics: bool, member: &StructMemberType) -> bool
-    ensures { result ≡ may_end_there atomics (member_view member.now).ty }
-{
-    may_end(atomics, &member.ty)
 }
 
 fn may_end(atomics: bool, ty: &Type) -> bool
@@ -78,16 +72,6 @@ pub fn variable<'a>(
     ensures { answer_view form_type_view result ≡ variable_there space access (view ty.now) }
 {
     let access = access_of(space, access)?;
-    variable_in(space, access, ty)
-}
-
-fn variable_in<'a>(
-    space: AddressSpace,
-    access: AccessMode,
-    ty: &'a Type,
-) -> Result<FormType<'a>, Refusal<'a>>
-    ensures { answer_view form_type_view result ≡ variable_in space (view ty.now) access }
-{
     if !holds(space, access, ty) {
         return Err(not_held(space, UnbuiltType::of_type(ty)));
     }
@@ -141,18 +125,6 @@ pub fn initialized_variable<'a>(
         ≡ initialized_there space access (given value.now) (option_map (λ t. view t.now) ty.entry) }
 {
     let access = access_of(space, access)?;
-    initialized_in(space, access, value, ty)
-}
-
-fn initialized_in<'a>(
-    space: AddressSpace,
-    access: AccessMode,
-    value: &Operand<'a>,
-    ty: Option<&'a Type>,
-) -> Result<FormType<'a>, Refusal<'a>>
-    ensures { answer_view form_type_view result
-        ≡ initialized_in space (given value.now) (option_map (λ t. view t.now) ty.entry) access }
-{
     if !has_initializer(space) {
         return Err(Refusal::Initialized(space));
     }
