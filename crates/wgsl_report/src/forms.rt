@@ -1,6 +1,6 @@
 // Structs as code of other languages, with their padding written out.
 
-mod fields;
+pub mod fields;
 pub mod names;
 pub mod numpy;
 mod reserved;

@@ -3,6 +3,7 @@
 use crate::lines::Place;
 use crate::prelude::*;
 use std::fmt;
+use std::fmt::Write;
 
 /// What writing returns: it fails only if memory runs out.
 pub type Written = Result<(), AllocError>;
@@ -28,7 +29,7 @@ pub struct OrNull(pub Option<u32>);
 pub struct IfKnown<'a>(pub &'a str, pub Option<u32>, pub &'a str);
 
 impl fmt::Display for Escaped<'_> {
-    fn fmt<W: fmt::Write>(&self, f: &mut fmt::Formatter<W>) -> fmt::Result {
+    fn fmt<W: Write>(&self, f: &mut fmt::Formatter<W>) -> fmt::Result {
         for letter in self.0.chars() {
             match letter {
                 '"' => f.write_str("\\\"")?,
@@ -37,7 +38,7 @@ impl fmt::Display for Escaped<'_> {
                     let code = u32::from(letter);
                     write!(f, "\\u{code:04x}")?
                 }
-                _ => f.write_char(letter)?,
+                _ => write!(f, "{letter}")?,
             }
         }
         Ok(())
@@ -45,16 +46,17 @@ impl fmt::Display for Escaped<'_> {
 }
 
 impl fmt::Display for Visible<'_> {
-    fn fmt<W: fmt::Write>(&self, f: &mut fmt::Formatter<W>) -> fmt::Result {
+    fn fmt<W: Write>(&self, f: &mut fmt::Formatter<W>) -> fmt::Result {
         for letter in self.0.chars() {
-            f.write_char(if letter.is_control() { ' ' } else { letter })?;
+            let shown = if letter.is_control() { ' ' } else { letter };
+            write!(f, "{shown}")?;
         }
         Ok(())
     }
 }
 
 impl fmt::Display for Fields {
-    fn fmt<W: fmt::Write>(&self, f: &mut fmt::Formatter<W>) -> fmt::Result {
+    fn fmt<W: Write>(&self, f: &mut fmt::Formatter<W>) -> fmt::Result {
         let Place {
             line,
             column,
@@ -68,7 +70,7 @@ impl fmt::Display for Fields {
 }
 
 impl fmt::Display for OrNull {
-    fn fmt<W: fmt::Write>(&self, f: &mut fmt::Formatter<W>) -> fmt::Result {
+    fn fmt<W: Write>(&self, f: &mut fmt::Formatter<W>) -> fmt::Result {
         match self.0 {
             Some(number) => write!(f, "{number}"),
             None => f.write_str("null"),
@@ -77,7 +79,7 @@ impl fmt::Display for OrNull {
 }
 
 impl fmt::Display for IfKnown<'_> {
-    fn fmt<W: fmt::Write>(&self, f: &mut fmt::Formatter<W>) -> fmt::Result {
+    fn fmt<W: Write>(&self, f: &mut fmt::Formatter<W>) -> fmt::Result {
         match self.1 {
             Some(number) => write!(f, "{}{number}{}", self.0, self.2),
             None => Ok(()),
