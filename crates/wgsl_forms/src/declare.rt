@@ -196,6 +196,7 @@ fn is_override_scalar(scalar: Scalar) -> bool
 }
 
 /// Whether the type of a value, made concrete, is that of an override.
+#[tactic(auto, using(crate::proofs::Overrides::no_override))]
 fn is_override_value(ty: OperandType<'_>) -> bool
     ensures { result ≡ may_be_override (concrete_of (given_type ty.entry)) }
 {
