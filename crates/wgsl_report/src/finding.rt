@@ -49,14 +49,16 @@ pub enum Trouble {
 }
 
 impl Trouble {
-    /// The message up to the number in what is wrong.
-    fn start(self) -> &'static str {
-        match self {
-            Trouble::Offset { .. } => "lies at ",
+    /// Writes what is wrong.
+    fn write_wrong(self, output: &mut String) -> Written {
+        let wrong = match self {
+            Trouble::Offset { offset, .. } => return write!(output, "lies at {offset}"),
             Trouble::Behind { .. } => "is a struct behind which the next member begins too soon",
             Trouble::Align { .. } => "has an `@align` that does not suit its type",
             Trouble::Size => "has a `@size` below the size of its type",
-            Trouble::Stride { .. } => "has elements with the stride ",
+            Trouble::Stride { stride } => {
+                return write!(output, "has elements with the stride {stride}");
+            }
             Trouble::Bool => "holds `bool`",
             Trouble::Atomic => "holds an atomic",
             Trouble::Array => "holds an array",
@@ -65,17 +67,20 @@ impl Trouble {
             Trouble::NoHandle => "is neither a sampler nor a texture",
             Trouble::NoBinding => "lacks `@group` or `@binding`",
             Trouble::NeedlessBinding => "has `@group` or `@binding`",
-        }
+        };
+        output.push_str(wrong)
     }
 
-    /// The message up to the number in what would fix it.
-    fn needs(self) -> &'static str {
-        match self {
-            Trouble::Offset { .. } => "it needs `@align(",
-            Trouble::Behind { .. } => "it needs `@size(",
-            Trouble::Align { .. } => "it needs a multiple of ",
+    /// Writes what would mend it.
+    fn write_mending(self, output: &mut String) -> Written {
+        let mending = match self {
+            Trouble::Offset { align, .. } => return write!(output, "it needs `@align({align})`"),
+            Trouble::Behind { room } => return write!(output, "it needs `@size({room})`"),
+            Trouble::Align { align } => return write!(output, "it needs a multiple of {align}"),
             Trouble::Size => "it needs no less",
-            Trouble::Stride { .. } => "these lie a multiple of ",
+            Trouble::Stride { .. } => {
+                "these lie a multiple of 16 bytes apart: use elements like `vec4<f32>`, or structs with a member of `@size(16)`"
+            }
             Trouble::Bool => "it needs `u32`",
             Trouble::Atomic => "none may stand: use `workgroup`, or `storage` with `read_write`",
             Trouble::Array => "none may stand: use vectors, matrices or members",
@@ -84,53 +89,33 @@ impl Trouble {
             Trouble::NoHandle => "it can't stand: use `var<uniform>` or `var<storage>`",
             Trouble::NoBinding => "it needs both",
             Trouble::NeedlessBinding => "it has no use for them",
-        }
-    }
-
-    /// The end of the message, after the number that would fix the member.
-    fn end(self) -> &'static str {
-        match self {
-            Trouble::Offset { .. } | Trouble::Behind { .. } => ")`",
-            Trouble::Stride { .. } => {
-                " bytes apart: use elements like `vec4<f32>`, or structs with a member of `@size(16)`"
-            }
-            _ => "",
-        }
-    }
-
-    /// The number in what is wrong, and the one in what would fix it.
-    fn numbers(self) -> (Option<u32>, Option<u32>) {
-        match self {
-            Trouble::Offset { offset, align } => (Some(offset), Some(align)),
-            Trouble::Behind { room } => (None, Some(room)),
-            Trouble::Align { align } => (None, Some(align)),
-            Trouble::Stride { stride } => (Some(stride), Some(16)),
-            _ => (None, None),
-        }
+        };
+        output.push_str(mending)
     }
 }
 
 impl<'a> Finding<'a> {
     /// Writes the message.
     pub fn write_to(&self, output: &mut String) -> Written {
-        let (trouble, Subject { of, name, .. }) = (self.trouble, self.subject);
+        let Subject {
+            of,
+            name,
+            place,
+            ..
+        } = self.subject;
         match of {
             Some(of) => write!(output, "`{of}.{name}` ")?,
             None => write!(output, "`{name}` ")?,
         }
-        let (start, needs, end) = (trouble.start(), trouble.needs(), trouble.end());
-        let (number, mending) = trouble.numbers();
-        let (number, mending) = (IfKnown("", number, ""), IfKnown("", mending, ""));
-        match self.subject.place {
+        self.trouble.write_wrong(output)?;
+        match place {
             Some(place) => {
                 let place = place.text();
-                write!(
-                    output,
-                    "{start}{number}; in `{place}` {needs}{mending}{end}"
-                )?
+                write!(output, "; in `{place}` ")?
             }
-            None => write!(output, "{start}{number}; {needs}{mending}{end}")?,
+            None => output.push_str("; ")?,
         }
+        self.trouble.write_mending(output)?;
         output.push_str(if self.is_lifted {
             " (`requires uniform_buffer_standard_layout;` lifts this rule)"
         } else {
