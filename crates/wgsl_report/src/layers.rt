@@ -5,10 +5,9 @@ use crate::prelude::*;
 /// The type inside an array, a binding array or a pointer.
 pub fn inside(module: &Module, ty: MeasuredType) -> Option<MeasuredType> {
     match ty.kind {
-        TypeKind::Array(index, _) | TypeKind::BindingArray(index, _) => {
-            module.elements.get(index).copied()
-        }
-        TypeKind::Pointer(_, index, _) => module.elements.get(index).copied(),
+        TypeKind::Array(index, _)
+        | TypeKind::BindingArray(index, _)
+        | TypeKind::Pointer(_, index, _) => module.elements.get(index).copied(),
         _ => None,
     }
 }
