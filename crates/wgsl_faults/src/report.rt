@@ -10,7 +10,7 @@ use wgsl_reader::module::Misread;
 use wgsl_report::lines::Lines;
 use wgsl_report::message::{EXPLAINED, Message, Note, Severity, is_explained, write_misread};
 use wgsl_report::shown::{Style, write_each};
-use wgsl_report::write::{Piece, write_all};
+use wgsl_report::write::Visible;
 use wgsl_source::fault::Cause;
 use wgsl_source::text::Text;
 
@@ -119,7 +119,7 @@ fn messages_of(
         let mut text = String::new(alloc);
         match explained(source.whole(), misread, fault.place, &mut left) {
             Some(found) => write_misread(&mut text, alloc, source.whole(), found, None)?,
-            None => write_all(&mut text, &[Piece::Visible(fault.message.as_str())])?,
+            None => write!(text, "{}", Visible(fault.message.as_str()))?,
         }
         let notes = notes_of(source, &fault.notes)?;
         messages.push(Message {
@@ -138,8 +138,7 @@ fn messages_of(
 fn notes_of(source: Source, notes: &[FaultNote]) -> Result<Vec<Note>, AllocError> {
     let mut told = Vec::new(source.alloc);
     for note in notes {
-        let mut text = String::new(source.alloc);
-        write_all(&mut text, &[Piece::Visible(note.message.as_str())])?;
+        let text = format!(in source.alloc; "{}", Visible(note.message.as_str()))?;
         let (at, end) = (source.start(note.place), source.end(note.place));
         told.push(Note { at, end, text })?;
     }

@@ -8,46 +8,33 @@ use wgsl_names::known::{Part, Typed};
 use wgsl_names::stage::Stage;
 use wgsl_report::json::{separator, write_messages};
 use wgsl_report::message::{Message, Severity, beginning};
-use wgsl_report::write::{Piece, write_all};
+use wgsl_report::write::{Escaped, Fields, Visible, Written};
 use wgsl_syntax::rules::RuleSet;
 use wgsl_typing::count::with_counts;
 use wgsl_typing::expression::shown_type;
 
 /// Writes a line per expression that has a type: its place, how it begins, and the type.
-pub fn write_types(output: &mut String, source: Source, parts: &[Part]) -> Result<(), AllocError> {
+pub fn write_types(output: &mut String, source: Source, parts: &[Part]) -> Written {
     for part in parts {
         if let Some(typed) = part.typed() {
             let (at, end) = (source.start(part.place), source.end(part.place));
             write_place(output, source, at)?;
             let (quoted, dots) = beginning(source.text.get(at..end).unwrap_or(""));
             let ty = type_text(source, typed)?;
-            let pieces = [
-                Piece::Text("`"),
-                Piece::Visible(quoted),
-                Piece::Text(dots),
-                Piece::Text("` is "),
-            ];
-            write_all(output, &pieces)?;
-            let pieces = [
-                Piece::Visible(ty.as_str()),
-                Piece::Text(match typed.stage {
-                    Stage::Const => ", a const-expression\n",
-                    Stage::Override => ", an override-expression\n",
-                    Stage::Runtime => "\n",
-                }),
-            ];
-            write_all(output, &pieces)?;
+            let (quoted, ty) = (Visible(quoted), Visible(ty.as_str()));
+            write!(output, "`{quoted}{dots}` is {ty}")?;
+            output.push_str(match typed.stage {
+                Stage::Const => ", a const-expression\n",
+                Stage::Override => ", an override-expression\n",
+                Stage::Runtime => "\n",
+            })?;
         }
     }
     Ok(())
 }
 
 /// Writes a line per message, with its code.
-pub fn write_short(
-    output: &mut String,
-    source: Source,
-    messages: &[Message],
-) -> Result<(), AllocError> {
+pub fn write_short(output: &mut String, source: Source, messages: &[Message]) -> Written {
     for message in messages {
         write_place(output, source, message.at)?;
         let (code, text) = (message.kind.as_str(), message.text.as_str());
@@ -62,15 +49,11 @@ pub fn write_json(
     source: Source,
     messages: &[Message],
     parts: &[Part],
-) -> Result<(), AllocError> {
-    let start = [
-        Piece::Text("{\"file\":\""),
-        Piece::Escaped(source.file),
-        Piece::Text("\",\"faults\":["),
-    ];
-    write_all(output, &start)?;
+) -> Written {
+    let file = Escaped(source.file);
+    write!(output, r#"{{"file":"{file}","faults":["#)?;
     write_messages(output, source.lines, messages, Severity::Error)?;
-    output.push_str("],\"types\":[")?;
+    output.push_str(r#"],"types":["#)?;
     let mut count: usize = 0;
     for part in parts {
         if let Some(typed) = part.typed() {
@@ -82,42 +65,34 @@ pub fn write_json(
     output.push_str("]}\n")
 }
 
-fn write_type_json(
-    output: &mut String,
-    source: Source,
-    part: &Part,
-    typed: &Typed,
-) -> Result<(), AllocError> {
+fn write_type_json(output: &mut String, source: Source, part: &Part, typed: &Typed) -> Written {
+    let (start, end) = (source.start(part.place), source.end(part.place));
+    let (start, end) = (
+        Fields(source.lines.place(start)),
+        Fields(source.lines.place(end)),
+    );
+    write!(output, r#"{{{start},"end":{{{end}}},"declared":"#)?;
+    match part.declared {
+        Some(count) => {
+            let declared = source.lines.place(source.start(Place::last_of(count)));
+            write!(output, "{{{}}}", Fields(declared))?;
+        }
+        None => output.push_str("null")?,
+    }
     let ty = type_text(source, typed)?;
-    let (before, declared, after) = match part.declared {
-        Some(count) => (
-            "{",
-            Piece::Place(source.lines.place(source.start(Place::last_of(count)))),
-            "}",
-        ),
-        None => ("null", Piece::Text(""), ""),
-    };
-    let pieces = [
-        Piece::Text("{"),
-        Piece::Place(source.lines.place(source.start(part.place))),
-        Piece::Text(",\"end\":{"),
-        Piece::Place(source.lines.place(source.end(part.place))),
-        Piece::Text("},\"declared\":"),
-        Piece::Text(before),
-        declared,
-        Piece::Text(after),
-        Piece::Text(",\"type\":\""),
-        Piece::Escaped(ty.as_str()),
-        Piece::Text(match typed.stage {
-            Stage::Const => "\",\"stage\":\"const\"}",
-            Stage::Override => "\",\"stage\":\"override\"}",
-            Stage::Runtime => "\",\"stage\":\"runtime\"}",
-        }),
-    ];
-    write_all(output, &pieces)
+    let (ty, stage) = (Escaped(ty.as_str()), stage_name(typed.stage));
+    write!(output, r#","type":"{ty}","stage":"{stage}"}}"#)
 }
 
-fn write_place(output: &mut String, source: Source, at: usize) -> Result<(), AllocError> {
+fn stage_name(stage: Stage) -> &'static str {
+    match stage {
+        Stage::Const => "const",
+        Stage::Override => "override",
+        Stage::Runtime => "runtime",
+    }
+}
+
+fn write_place(output: &mut String, source: Source, at: usize) -> Written {
     let place = source.lines.place(at);
     let (file, line, column) = (source.file, place.line, place.column);
     write!(output, "{file}:{line}:{column}: ")

@@ -1,13 +1,9 @@
 -- The operators `&` and `*` (WGSL, "Address-Of Expression" and "Indirection Expression").
 use Rattle.std.specs.Prelude.{Result, Ok, Err, Bool, true, false, cond}
-use Rattle.wgsl_syntax.specs.declared.address.AddressSpace.TheVariants.{Handle}
+use Rattle.wgsl_forms.specs.Prelude.{Handle, WgslType, pointer, reference, unary, ptr_handle, ptr_vec_comp, Referent, Whole}
 use Rattle.wgsl_syntax.specs.declared.operator.UnaryOperator.TheVariants.{AddressOf, Indirection}
-use Rattle.wgsl_rules.specs.types.Types.{WgslType, pointer, reference}
-use Rattle.wgsl_rules.specs.errors.Refusals.{unary, ptr_handle, ptr_vec_comp}
 use Rattle.wgsl_forms.specs.Expressions.{Expression}
 use Rattle.wgsl_forms.specs.Refusals.{Refusal, error}
-use Rattle.wgsl_forms.specs.declared.form.Referent.{Referent}
-use Rattle.wgsl_forms.specs.declared.form.Referent.TheVariants.{Whole}
 
 -- an expression that is no const-expression
 abbrev pub at_run_time : WgslType → Expression

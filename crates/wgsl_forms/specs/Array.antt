@@ -1,8 +1,6 @@
 -- Constructors of arrays (WGSL, "array").
 use Rattle.std.specs.Prelude.{◌≡◌, ℕ, List, [], ◌∷◌, ◌==◌, length, map, codes, if◌then◌else◌, Option, Some, None, Result, Ok, Err}
-use Rattle.wgsl_rules.specs.types.Types.{WgslType, array, reference}
-use Rattle.wgsl_rules.specs.conversion.Common.{IsLeftCommon}
-use Rattle.wgsl_rules.specs.errors.Refusals.{not_constructible, builtin}
+use Rattle.wgsl_forms.specs.Prelude.{WgslType, array, reference, IsLeftCommon, not_constructible, builtin}
 use Rattle.wgsl_forms.specs.Declare.{is_const_type}
 use Rattle.wgsl_forms.specs.Kinds.{is_constructible}
 use Rattle.wgsl_forms.specs.Lists.{Fits, all_fit, counted}

@@ -1,19 +1,10 @@
 -- Assignments, increments and decrements (WGSL, "Assignment Statement" and "Increment and Decrement Statements").
 use Rattle.std.specs.Prelude.{◌≡◌, Bool, true, false, [], ◌∷◌, Option, Some, None, Result, Ok, Err}
-use Rattle.std.specs.Result.{result_unwrap_or}
-use Rattle.wgsl_syntax.specs.declared.scalar.Scalar.TheVariants.{I32, U32}
-use Rattle.wgsl_syntax.specs.declared.address.AccessMode.{AccessMode}
-use Rattle.wgsl_syntax.specs.declared.address.AccessMode.TheVariants.{Write, ReadWrite}
-use Rattle.wgsl_syntax.specs.declared.operator.BinaryOperator.{BinaryOperator}
+use Rattle.wgsl_forms.specs.Prelude.{result_unwrap_or, I32, U32, AccessMode, Write, ReadWrite, BinaryOperator, WgslType, scalar, reference, not_constructible}
+use Rattle.wgsl_forms.specs.Prelude.{not_write, not_read_write, write_ref_type, binary, IsStandardAnswer, Operand, value_of, binary_overloads, type_eq}
 use Rattle.wgsl_syntax.specs.declared.operator.BinaryOperator.TheVariants as operators
 use Rattle.wgsl_syntax.specs.declared.operator.AssignmentOperator.{AssignmentOperator}
 use Rattle.wgsl_syntax.specs.declared.operator.AssignmentOperator.TheVariants as assignments
-use Rattle.wgsl_rules.specs.types.Types.{WgslType, scalar, reference}
-use Rattle.wgsl_rules.specs.errors.Refusals.{not_constructible, not_write, not_read_write, write_ref_type, binary}
-use Rattle.wgsl_rules.specs.standard.Answers.{IsStandardAnswer}
-use Rattle.wgsl_rules.specs.standard.Choice.{Operand, value_of}
-use Rattle.wgsl_rules.specs.standard.Operators.{binary_overloads}
-use Rattle.wgsl_core.specs.Equality.{type_eq}
 use Rattle.wgsl_forms.specs.Concrete.{has_abstract_type}
 use Rattle.wgsl_forms.specs.Convert.{converts}
 use Rattle.wgsl_forms.specs.Kinds.{is_constructible}

@@ -1,14 +1,10 @@
 -- Abstract types with the result structs of abstract floats, and the concrete type for each (WGSL, "Abstract Numeric Types").
 use Rattle.std.specs.Prelude.{List, [], ◌∷◌, Option, Some, None, Bool, true, false, cond}
-use Rattle.wgsl_syntax.specs.declared.scalar.Scalar.TheVariants.{AbstractInt, AbstractFloat, I32, F32}
-use Rattle.wgsl_syntax.specs.declared.result_struct.ResultFunction.{ResultFunction}
+use Rattle.wgsl_forms.specs.Prelude.{AbstractInt, AbstractFloat, I32, F32, ResultFunction, ResultShape, mat_of, WgslType, scalar, within, struct, type_eq}
 use Rattle.wgsl_syntax.specs.declared.result_struct.ResultFunction.TheVariants.{Frexp, Modf}
-use Rattle.wgsl_syntax.specs.declared.result_struct.ResultShape.{ResultShape}
 use Rattle.wgsl_syntax.specs.declared.result_struct.ResultShape.TheVariants as shape
 use Rattle.wgsl_syntax.specs.declared.result_struct.ResultPrecision.TheVariants as precision
-use Rattle.wgsl_rules.specs.types.Types.{mat_of, WgslType, scalar, within, struct}
 use Rattle.wgsl_rules.specs.types.ResultStructs.{result_struct}
-use Rattle.wgsl_core.specs.Equality.{type_eq}
 
 -- the result structs of `frexp` and `modf` for abstract floats, by function and shape
 abbrev pub abstract_results : List (ResultFunction × ResultShape)

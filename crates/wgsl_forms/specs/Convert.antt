@@ -1,11 +1,8 @@
 -- Whether a type converts to another, as a test (WGSL, "Conversion Rank").
 use Rattle.std.specs.Prelude.{Bool, Result, Ok}
 use Rattle.std.specs.Bool.{Decides}
-use Rattle.wgsl_rules.specs.types.Types.{WgslType}
-use Rattle.wgsl_rules.specs.conversion.Conversion.{ConvertsTo}
-use Rattle.wgsl_rules.specs.errors.Refusals.{conversion}
+use Rattle.wgsl_forms.specs.Prelude.{WgslType, ConvertsTo, conversion, is_yes, yes_decides}
 use Rattle.wgsl_rules.proofs.conversion.Order.{dec_converts}
-use Rattle.wgsl_core.specs.Equality.{is_yes, yes_decides}
 use Rattle.wgsl_forms.specs.Questions.{asks}
 use Rattle.wgsl_forms.specs.Refusals.{Refusal, error}
 

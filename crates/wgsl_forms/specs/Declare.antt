@@ -1,9 +1,7 @@
 -- Declarations without memory, and the phony assignment (WGSL, "Value Declarations" and "Phony Assignment").
 use Rattle.std.specs.Prelude.{Bool, true, false, not, ◌&&◌, ◌||◌, Option, Some, None, Result, Ok}
 use Rattle.wgsl_syntax.specs.declared.scalar.Scalar.TheVariants as scalars
-use Rattle.wgsl_rules.specs.types.Types.{WgslType, scalar, pointer}
-use Rattle.wgsl_rules.specs.errors.Refusals.{not_constructible, not_scalar}
-use Rattle.wgsl_rules.specs.standard.Choice.{Operand}
+use Rattle.wgsl_forms.specs.Prelude.{WgslType, scalar, pointer, not_constructible, not_scalar, Operand, Let, Const, Override}
 use Rattle.wgsl_forms.specs.Concrete.{concrete_of, has_abstract_type}
 use Rattle.wgsl_forms.specs.Convert.{converted}
 use Rattle.wgsl_forms.specs.Expressions.{is_const_expression}
@@ -12,7 +10,6 @@ use Rattle.wgsl_forms.specs.Load.{loaded}
 use Rattle.wgsl_forms.specs.Questions.{asks, after}
 use Rattle.wgsl_forms.specs.Refusals.{Refusal, error, not_const}
 use Rattle.wgsl_forms.specs.declared.declare.Declaration.{Declaration}
-use Rattle.wgsl_forms.specs.declared.declare.Declaration.TheVariants.{Let, Const, Override}
 
 -- what `let` can name: `f32`, `ptr<function, i32, read_write>`, `sampler`
 abbrev pub may_be_let : WgslType → Bool

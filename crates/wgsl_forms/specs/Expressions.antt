@@ -1,11 +1,8 @@
 -- Expressions, as the rules see them.
 use Rattle.std.specs.Prelude.{Bool, cond, not, ◌&&◌, ◌||◌}
-use Rattle.wgsl_rules.specs.types.Types.{WgslType}
-use Rattle.wgsl_rules.specs.standard.Choice.{Operand}
+use Rattle.wgsl_forms.specs.Prelude.{WgslType, Operand, Referent, Whole, Swizzle}
 use Rattle.wgsl_forms.specs.Memory.{behind, formed_from, is_memory}
 use Rattle.wgsl_forms.specs.Concrete.{has_abstract_type}
-use Rattle.wgsl_forms.specs.declared.form.Referent.{Referent}
-use Rattle.wgsl_forms.specs.declared.form.Referent.TheVariants.{Whole, Swizzle}
 
 -- An operand is a const-expression if it is said to be one or has an abstract type; a reference or a pointer never is.
 abbrev pub is_const_expression : Operand → Bool

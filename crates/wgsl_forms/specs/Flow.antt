@@ -1,8 +1,7 @@
 -- Conditions, and the values that functions return (WGSL, "Control Flow" and "Return Statement").
 use Rattle.std.specs.Prelude.{Bool, true, false, Result, Ok}
 use Rattle.wgsl_syntax.specs.declared.scalar.Scalar.TheVariants as scalars
-use Rattle.wgsl_rules.specs.types.Types.{WgslType, scalar}
-use Rattle.wgsl_rules.specs.errors.Refusals.{not_constructible}
+use Rattle.wgsl_forms.specs.Prelude.{WgslType, scalar, not_constructible}
 use Rattle.wgsl_forms.specs.Convert.{converts}
 use Rattle.wgsl_forms.specs.Declare.{is_const_type}
 use Rattle.wgsl_forms.specs.Load.{loaded}

@@ -1,16 +1,12 @@
 -- Indexes into vectors, matrices and arrays (WGSL, "Vector Access", "Matrix Access" and "Array Access").
 use Rattle.std.specs.Prelude.{Option, Some, None, Result, Ok, Err, Bool, true, false, ◌&&◌, ◌||◌, cond}
-use Rattle.wgsl_syntax.specs.declared.scalar.Scalar.TheVariants.{AbstractInt, I32, U32}
-use Rattle.wgsl_rules.specs.types.Types.{WgslType, scalar, array, vec, mat, binding_array}
-use Rattle.wgsl_rules.specs.errors.Refusals.{not_indexable}
-use Rattle.wgsl_rules.specs.standard.Choice.{Operand}
+use Rattle.wgsl_forms.specs.Prelude.{AbstractInt, I32, U32, WgslType, scalar, array, vec, mat, binding_array, not_indexable, Operand, Referent, Whole}
+use Rattle.wgsl_forms.specs.Prelude.{Component}
 use Rattle.wgsl_forms.specs.Memory.{behind, formed_from, is_memory}
 use Rattle.wgsl_forms.specs.Concrete.{concrete_of}
 use Rattle.wgsl_forms.specs.Expressions.{Expression, is_const_expression, referent_in}
 use Rattle.wgsl_forms.specs.Load.{loaded}
 use Rattle.wgsl_forms.specs.Refusals.{Refusal, error, not_integer}
-use Rattle.wgsl_forms.specs.declared.form.Referent.{Referent}
-use Rattle.wgsl_forms.specs.declared.form.Referent.TheVariants.{Whole, Component}
 
 abbrev pub element_of : WgslType → Option WgslType
 -- vec3<f32> : f32

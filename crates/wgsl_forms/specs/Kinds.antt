@@ -1,9 +1,8 @@
 -- Types with a fixed footprint, constructible types, handles, and types that can be shared with the host (WGSL,
 -- "Fixed-Footprint Types", "Constructible Types" and "Host-shareable Types").
 use Rattle.std.specs.Prelude.{Bool, true, false, ◌&&◌, None}
-use Rattle.wgsl_syntax.specs.declared.scalar.Scalar.{Scalar}
+use Rattle.wgsl_forms.specs.Prelude.{Scalar, array_of, WgslType, Members, no_members, member, scalar, within, struct, atomic, texture, sampler}
 use Rattle.wgsl_syntax.specs.declared.scalar.Scalar.TheVariants as scalars
-use Rattle.wgsl_rules.specs.types.Types.{array_of, WgslType, Members, no_members, member, scalar, within, struct, atomic, texture, sampler}
 
 -- A scalar, a vector, a matrix, an array with a count or a struct, of such types, and perhaps atomics.
 abbrev mutual

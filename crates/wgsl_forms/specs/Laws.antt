@@ -1,16 +1,12 @@
 -- Laws of members, indexes and addresses.
 use Rattle.std.specs.Prelude.{◌≡◌, ◌↔◌, ℕ, List, Bool, false, IsTrue, Ok}
-use Rattle.wgsl_syntax.specs.declared.address.AddressSpace.{AddressSpace}
-use Rattle.wgsl_syntax.specs.declared.address.AccessMode.{AccessMode}
-use Rattle.wgsl_rules.specs.types.Types.{WgslType, pointer, reference}
-use Rattle.wgsl_rules.specs.standard.Choice.{Operand}
+use Rattle.wgsl_forms.specs.Prelude.{AddressSpace, AccessMode, WgslType, pointer, reference, Operand, Whole, Swizzle}
 use Rattle.wgsl_forms.specs.Address.{address_answer, indirection_answer}
 use Rattle.wgsl_forms.specs.Concrete.{concrete_of, has_abstract_type}
 use Rattle.wgsl_forms.specs.Expressions.{Expression, shown_type}
 use Rattle.wgsl_forms.specs.Index.{index_answer}
 use Rattle.wgsl_forms.specs.Load.{loaded}
 use Rattle.wgsl_forms.specs.Member.{is_swizzle, member_answer}
-use Rattle.wgsl_forms.specs.declared.form.Referent.TheVariants.{Whole, Swizzle}
 
 abbrev operand : WgslType → Bool → Operand
 operand t c = record { of_type = t; is_constant = c }

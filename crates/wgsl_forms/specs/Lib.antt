@@ -1,3 +1,4 @@
+pub mod Prelude
 pub mod Memory
 pub mod Kinds
 pub mod Concrete

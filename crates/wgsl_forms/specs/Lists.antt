@@ -1,8 +1,7 @@
 -- Values of a list: arguments of a function, of a struct's constructor (WGSL, "Function Calls" and "Structure Value
 -- Constructors"), a condition, a returned value.
 use Rattle.std.specs.Prelude.{ℕ, List, [], ◌∷◌, ◌==◌, length, codes, if◌then◌else◌, Result, Ok, Err}
-use Rattle.wgsl_rules.specs.types.Types.{WgslType, Members, no_members, member, struct}
-use Rattle.wgsl_rules.specs.errors.Refusals.{not_constructible, param_count, param_type}
+use Rattle.wgsl_forms.specs.Prelude.{WgslType, Members, no_members, member, struct, not_constructible, param_count, param_type}
 use Rattle.wgsl_forms.specs.Convert.{converts}
 use Rattle.wgsl_forms.specs.Declare.{is_let_type}
 use Rattle.wgsl_forms.specs.Kinds.{is_constructible}

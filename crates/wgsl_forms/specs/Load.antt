@@ -1,10 +1,6 @@
 -- The load of a reference (WGSL, "Load Rule").
 use Rattle.std.specs.Prelude.{Result, Ok, Err, Bool, true, false, ◌||◌, cond}
-use Rattle.wgsl_syntax.specs.declared.address.AccessMode.{AccessMode}
-use Rattle.wgsl_syntax.specs.declared.address.AccessMode.TheVariants.{Read, ReadWrite}
-use Rattle.wgsl_rules.specs.types.Types.{WgslType, reference}
-use Rattle.wgsl_rules.specs.errors.Refusals.{not_read, not_constructible}
-use Rattle.wgsl_rules.specs.standard.Choice.{Operand}
+use Rattle.wgsl_forms.specs.Prelude.{AccessMode, Read, ReadWrite, WgslType, reference, not_read, not_constructible, Operand}
 use Rattle.wgsl_forms.specs.Expressions.{is_const_expression}
 use Rattle.wgsl_forms.specs.Kinds.{is_constructible, is_handle}
 use Rattle.wgsl_forms.specs.Refusals.{Refusal, error}

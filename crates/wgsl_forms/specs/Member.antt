@@ -1,10 +1,7 @@
 -- Members of structs and components of vectors (WGSL, "Structure Access" and "Vector Access").
 use Rattle.std.specs.Prelude.{ℕ, List, [], ◌∷◌, take, codes, nat_eq, Option, Some, None, option_map, Result, Ok, Err, Bool, true, false, not, ◌&&◌, ◌||◌, cond}
-use Rattle.std.specs.List.{list_all, list_any}
+use Rattle.wgsl_forms.specs.Prelude.{list_all, list_any, WgslType, Members, no_members, member, struct, vec, component, Operand}
 use Rattle.std.specs.Str.{bytes_eq}
-use Rattle.wgsl_rules.specs.types.Types.{WgslType, Members, no_members, member, struct, vec}
-use Rattle.wgsl_rules.specs.errors.Refusals.{component}
-use Rattle.wgsl_rules.specs.standard.Choice.{Operand}
 use Rattle.wgsl_forms.specs.Memory.{behind, formed_from, is_memory}
 use Rattle.wgsl_forms.specs.Expressions.{Expression, part_of, value_from}
 use Rattle.wgsl_forms.specs.Load.{loaded}

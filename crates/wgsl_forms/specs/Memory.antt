@@ -1,8 +1,6 @@
 -- Memory: references and pointers, and what is formed from them (WGSL, "Memory Views").
 use Rattle.std.specs.Prelude.{Option, Some, None, Bool, is_some}
-use Rattle.wgsl_syntax.specs.declared.address.AddressSpace.{AddressSpace}
-use Rattle.wgsl_syntax.specs.declared.address.AccessMode.{AccessMode}
-use Rattle.wgsl_rules.specs.types.Types.{WgslType, pointer, reference}
+use Rattle.wgsl_forms.specs.Prelude.{AddressSpace, AccessMode, WgslType, pointer, reference}
 
 -- the type behind a reference or a pointer: `f32` behind `ref<function, f32, read_write>`
 abbrev pub behind : WgslType → WgslType

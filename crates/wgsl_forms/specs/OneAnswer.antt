@@ -1,8 +1,6 @@
 -- Each form has exactly one answer. Most answers are functions of the operands, which says so; these are the others.
 use Rattle.std.specs.Prelude.{◌≡◌, List, Option, Result}
-use Rattle.wgsl_syntax.specs.declared.operator.BinaryOperator.{BinaryOperator}
-use Rattle.wgsl_rules.specs.types.Types.{WgslType}
-use Rattle.wgsl_rules.specs.standard.Choice.{Operand}
+use Rattle.wgsl_forms.specs.Prelude.{BinaryOperator, WgslType, Operand}
 use Rattle.wgsl_forms.specs.Array.{IsInferredArray}
 use Rattle.wgsl_forms.specs.Assign.{IsAssigned}
 use Rattle.wgsl_forms.specs.Refusals.{Refusal}

@@ -1,12 +1,8 @@
 -- Why a form has no type, and the message that says so.
 use Rattle.std.specs.Prelude.{ℕ, List, ◌++◌, codes}
 use Rattle.wgsl_syntax.specs.Address.{space_text_by, access_text}
-use Rattle.wgsl_syntax.specs.declared.address.AddressSpace.{AddressSpace}
-use Rattle.wgsl_syntax.specs.declared.address.AccessMode.{AccessMode}
+use Rattle.wgsl_forms.specs.Prelude.{AddressSpace, AccessMode, WgslType, wgsl_spelling, Refusal as Error, message_by}
 use Rattle.wgsl_syntax.specs.declared.rules.RuleSet.TheVariants.{Standard}
-use Rattle.wgsl_rules.specs.types.Types.{WgslType}
-use Rattle.wgsl_rules.specs.types.Spelling.{wgsl_spelling}
-use Rattle.wgsl_rules.specs.errors.Refusals.{Refusal as Error, message_by}
 
 pub data Refusal : Type 0 where
   -- one that the ported rules have too

@@ -1,10 +1,6 @@
 -- `switch` (WGSL, "Switch Statement").
 use Rattle.std.specs.Prelude.{List, [], ◌∷◌, Bool, true, false, ◌&&◌, Option, Some, None, Result, Ok}
-use Rattle.wgsl_syntax.specs.declared.scalar.Scalar.{Scalar}
-use Rattle.wgsl_syntax.specs.declared.scalar.Scalar.TheVariants.{I32, U32}
-use Rattle.wgsl_rules.specs.types.Types.{WgslType, scalar}
-use Rattle.wgsl_rules.specs.errors.Refusals.{conversion}
-use Rattle.wgsl_rules.specs.standard.Choice.{Operand}
+use Rattle.wgsl_forms.specs.Prelude.{Scalar, I32, U32, WgslType, scalar, conversion, Operand}
 use Rattle.wgsl_forms.specs.Expressions.{is_const_expression}
 use Rattle.wgsl_forms.specs.Index.{is_index}
 use Rattle.wgsl_forms.specs.Lists.{Fits}

@@ -1,13 +1,8 @@
 -- Variables (WGSL, "Variable Declarations" and "Address Spaces").
 use Rattle.std.specs.Prelude.{Bool, true, false, not, ◌&&◌, Option, Some, None, Result, Ok}
 use Rattle.wgsl_syntax.specs.Address.{default_access, may_say}
-use Rattle.wgsl_syntax.specs.declared.address.AddressSpace.{AddressSpace}
-use Rattle.wgsl_syntax.specs.declared.address.AddressSpace.TheVariants.{Function, Private, Workgroup, Uniform, Storage, Handle, PushConstant}
-use Rattle.wgsl_syntax.specs.declared.address.AccessMode.{AccessMode}
-use Rattle.wgsl_syntax.specs.declared.address.AccessMode.TheVariants.{ReadWrite}
-use Rattle.wgsl_rules.specs.types.Types.{array_of, WgslType, Members, no_members, member, within, struct, reference, binding_array}
-use Rattle.wgsl_rules.specs.errors.Refusals.{not_constructible}
-use Rattle.wgsl_rules.specs.standard.Choice.{Operand}
+use Rattle.wgsl_forms.specs.Prelude.{AddressSpace, Function, Private, Workgroup, Uniform, Storage, Handle, PushConstant, AccessMode, ReadWrite, array_of}
+use Rattle.wgsl_forms.specs.Prelude.{WgslType, Members, no_members, member, within, struct, reference, binding_array, not_constructible, Operand}
 use Rattle.wgsl_forms.specs.Concrete.{concrete_of, has_abstract_type}
 use Rattle.wgsl_forms.specs.Convert.{converted}
 use Rattle.wgsl_forms.specs.Declare.{is_const_type}

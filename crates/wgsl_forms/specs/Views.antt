@@ -1,11 +1,8 @@
 -- How the rules see operands, types that aren't built, and refusals.
 use Rattle.std.specs.Prelude.{Option, Some, None, Result, Ok, Err}
-use Rattle.wgsl_rules.specs.types.Types.{Layer, WgslType, within, pointer, reference}
-use Rattle.wgsl_rules.specs.errors.Refusals.{not_scalar, not_constructible, write_ref_type, not_write, not_read, not_read_write, ptr_handle, ptr_vec_comp, conversion, component, not_indexable, unary, binary, builtin, param_count, param_type}
-use Rattle.wgsl_rules.specs.standard.Choice.{Operand}
-use Rattle.wgsl_rules.specs.standard.Overloads.{type_with}
-use Rattle.wgsl_core.specs.View.{view}
-use Rattle.wgsl_standard.specs.Operands.{given_type}
+use Rattle.wgsl_forms.specs.Prelude.{Layer, WgslType, within, pointer, reference, not_scalar, not_constructible, write_ref_type, not_write, not_read}
+use Rattle.wgsl_forms.specs.Prelude.{not_read_write, ptr_handle, ptr_vec_comp, conversion, component, not_indexable, unary, binary, builtin, param_count}
+use Rattle.wgsl_forms.specs.Prelude.{param_type, Operand, type_with, view, given_type, Referent, Whole, MemoryView, Reference, Pointer}
 use Rattle.wgsl_standard.specs.declared.operand.Operand.{Operand as CodeOperand}
 use Rattle.wgsl_forms.specs.Concrete.{concrete_of}
 use Rattle.wgsl_forms.specs.Expressions.{Expression}
@@ -14,10 +11,6 @@ use Rattle.wgsl_forms.specs.Refusals.{Refusal, error, not_reference, not_integer
 use Rattle.wgsl_forms.specs.declared.form.Element.{Element}
 use Rattle.wgsl_forms.specs.declared.form.Element.TheVariants as elements
 use Rattle.wgsl_forms.specs.declared.form.UnbuiltType.{UnbuiltType}
-use Rattle.wgsl_forms.specs.declared.form.Referent.{Referent}
-use Rattle.wgsl_forms.specs.declared.form.Referent.TheVariants.{Whole}
-use Rattle.wgsl_forms.specs.declared.form.MemoryView.{MemoryView}
-use Rattle.wgsl_forms.specs.declared.form.MemoryView.TheVariants.{Reference, Pointer}
 use Rattle.wgsl_forms.specs.declared.form.FormType.{FormType}
 use Rattle.wgsl_forms.specs.declared.form.Form.{Form}
 use Rattle.wgsl_forms.specs.declared.lists.Taker.{Taker as CodeTaker}

@@ -1,19 +1,13 @@
 // The operators `&` and `*`.
 ghost use Rattle.std.specs.Prelude.{◌≡◌, Some, false};
-ghost use Rattle.wgsl_rules.specs.errors.Refusals.{unary};
-ghost use Rattle.wgsl_core.specs.View.{view};
-ghost use Rattle.wgsl_standard.specs.Operands.{given_type};
+ghost use Rattle.wgsl_forms.specs.Prelude.{unary, view, given_type};
 ghost use Rattle.wgsl_forms.specs.Address.{address_answer, has_address, indirection_answer};
 ghost use Rattle.wgsl_forms.specs.Refusals.{error};
 ghost use Rattle.wgsl_forms.specs.Views.{answer_view, form_view, referent_of, refusal_view, viewed};
 
-use crate::form::{Form, FormType, MemoryView, Referent, UnbuiltType};
-use crate::refusal::Refusal;
-use wgsl_core::ty::Type;
+use crate::form::Form;
+use crate::prelude::*;
 use wgsl_core::ty::form::Form as TypeForm;
-use wgsl_standard::operand::{Operand, OperandType};
-use wgsl_syntax::address::AddressSpace;
-use wgsl_syntax::operator::UnaryOperator;
 
 /// What `&x` is (WGSL, "Address-Of Expression"), where `x` refers to `referent`. `Unary` if `x` is no reference, `PtrHandle` in
 /// the handle space, `PtrVecComp` of components of a vector.

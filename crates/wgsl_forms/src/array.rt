@@ -1,24 +1,11 @@
 // Constructors of arrays.
 ghost use Rattle.std.specs.Prelude.{◌≡◌, ◌∷◌, map, option_map};
-ghost use Rattle.wgsl_rules.specs.types.Types.{array};
-ghost use Rattle.wgsl_rules.specs.conversion.Common.{IsCommon, IsLeftCommon};
-ghost use Rattle.wgsl_core.specs.View.{view};
-ghost use Rattle.wgsl_standard.specs.Operands.{given_type};
-ghost use Rattle.wgsl_standard.specs.Texts.{types_given};
-ghost use Rattle.wgsl_forms.specs.Array.{IsArrayOf, IsInferredArray, all_load as all_load_there, array_of as array_there, counted_elements_fit as counted_there, elements_fit as elements_fit_there, referred as referred_there, typed_array};
+ghost use Rattle.wgsl_forms.specs.Prelude.{array, IsCommon, IsLeftCommon, view, given_type, types_given};
+ghost use Rattle.wgsl_forms.specs.Array.{IsArrayOf, IsInferredArray, all_load as all_load_there, array_of as array_there, elements_fit as elements_fit_there, referred as referred_there, typed_array};
 ghost use Rattle.wgsl_forms.specs.Views.{answer_view, unbuilt_view};
 
-use crate::convert::converts_to;
-use crate::declare::is_const_type;
-use crate::form::{Element, UnbuiltType};
-use crate::kinds::operand_is_constructible;
 use crate::lists::{all_fit, count_is};
-use crate::load::load_type;
-use crate::refusal::Refusal;
-use wgsl_core::ty::Type;
-use wgsl_core::ty::form::Form;
-use wgsl_standard::operand::{Operand, OperandType};
-use wgsl_syntax::layer::Layer;
+use crate::prelude::*;
 
 /// The type of an array of values, `array(v, ..)` (WGSL, "array"): its elements have the common type of the values, which may
 /// be abstract. Refused, in this order, by the load of a value, by `Builtin` without a value or without a common type, by
@@ -116,16 +103,10 @@ fn referred(ty: OperandType<'_>) -> OperandType<'_>
 {
     match ty {
         OperandType::Value(_, _) => ty,
-        OperandType::Any(of) => referred_type(of),
-    }
-}
-
-fn referred_type(ty: &Type) -> OperandType<'_>
-    ensures { given_type result ≡ referred_there (view ty.now) }
-{
-    match ty.form() {
-        Form::Reference(_, stored, _) => OperandType::Any(stored),
-        _ => OperandType::Any(ty),
+        OperandType::Any(of) => match of.form() {
+            Form::Reference(_, stored, _) => OperandType::Any(stored),
+            _ => ty,
+        },
     }
 }
 
@@ -162,20 +143,8 @@ fn elements_fit<'a>(
         ≡ elements_fit_there count (view element.now) (types_given values.now) }
 {
     if values.is_empty() {
-        Ok(())
-    } else {
-        counted_elements_fit(count, element, values)
+        return Ok(());
     }
-}
-
-fn counted_elements_fit<'a>(
-    count: usize,
-    element: &'a Type,
-    values: &[Operand<'a>],
-) -> Result<(), Refusal<'a>>
-    ensures { answer_view (λ u. tt) result
-        ≡ counted_there count (view element.now) (types_given values.now) }
-{
     count_is("array", count, values.len())?;
     all_fit(element, values)
 }

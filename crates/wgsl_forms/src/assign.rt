@@ -1,37 +1,16 @@
 // Assignments, increments and decrements.
 ghost use Rattle.std.specs.Prelude.{◌≡◌, ◌↔◌, [], ◌∷◌, IsTrue, Some, option_map};
-ghost use Rattle.std.specs.Result.{result_unwrap_or};
-ghost use Rattle.wgsl_syntax.specs.declared.address.AccessMode.TheVariants.{ReadWrite};
-ghost use Rattle.wgsl_rules.specs.types.Types.{scalar as scalar_type, within};
-ghost use Rattle.wgsl_rules.specs.standard.Answers.{IsStandardAnswer};
-ghost use Rattle.wgsl_rules.specs.standard.Operators.{binary_overloads as binary_there};
-ghost use Rattle.wgsl_rules.specs.standard.Overloads.{type_with};
-ghost use Rattle.wgsl_core.specs.Equality.{type_eq};
-ghost use Rattle.wgsl_core.specs.View.{view};
-ghost use Rattle.wgsl_standard.specs.Operands.{given_type, operand_view};
-ghost use Rattle.wgsl_forms.specs.Assign.{IsAssigned, IsAssignedBy, IsCompound, IsCompoundTo, assigned, assigned_to, compound as compound_there, incremented, incremented_in, is_counter as counter, operator_of, written};
+ghost use Rattle.wgsl_forms.specs.Prelude.{result_unwrap_or, ReadWrite, scalar as scalar_type, within, IsStandardAnswer, binary_overloads as binary_there};
+ghost use Rattle.wgsl_forms.specs.Prelude.{type_with, type_eq, view, given_type, operand_view};
+ghost use Rattle.wgsl_forms.specs.Assign.{IsAssigned, IsAssignedBy, IsCompound, assigned, assigned_to, compound as compound_there, incremented, incremented_in, operator_of};
 ghost use Rattle.wgsl_forms.specs.Load.{loaded};
 ghost use Rattle.wgsl_forms.specs.Views.{answer_view, given};
 ghost use Rattle.wgsl_forms.specs.internal.Values.{result_value as value_there};
 
-use crate::concrete::has_abstract_type;
-use crate::convert::{converts, has_layer, has_scalar};
-use crate::form::UnbuiltType;
-use crate::kinds::operand_is_constructible;
-use crate::load::load_type;
-use crate::refusal::Refusal;
-use wgsl_core::ty::Type;
-use wgsl_core::ty::form::Form;
-use wgsl_standard::operand::{Operand, OperandType};
+use crate::prelude::*;
 use wgsl_standard::operators::binary_overloads;
 use wgsl_standard::overload::result_of;
 use wgsl_standard::resolve::resolve;
-use wgsl_standard::substitution::{component_in, dimensions_in};
-use wgsl_syntax::address::AccessMode;
-use wgsl_syntax::layer::Layer;
-use wgsl_syntax::operator::{AssignmentOperator, BinaryOperator};
-use wgsl_syntax::overload::{Dimensions, Overload, Pattern, Returns, Substitution};
-use wgsl_syntax::scalar::Scalar;
 
 /// The type to which `x = y` writes: that of what `x` refers to (WGSL, "Simple Assignment"). Refused, in this order, by
 /// `NotReference`, `NotWrite`, `NotConstructible`, the load of `y`, `WriteRefType`.
@@ -42,17 +21,10 @@ pub fn assign<'a>(x: &Operand<'a>, y: &Operand<'a>) -> Result<&'a Type, Refusal<
 {
     match x.ty {
         OperandType::Value(_, _) => Err(Refusal::NotReference(UnbuiltType::of(x.ty))),
-        OperandType::Any(ty) => assign_type(ty, y.ty),
-    }
-}
-
-#[inline(always)]
-fn assign_type<'a>(x: &'a Type, y: OperandType<'a>) -> Result<&'a Type, Refusal<'a>>
-    ensures { answer_view (λ t. view t.now) result ≡ assigned (view x.now) (given_type y.entry) }
-{
-    match x.form() {
-        Form::Reference(_, stored, access) => assign_to(stored, access, y),
-        _ => Err(Refusal::NotReference(UnbuiltType::of_type(x))),
+        OperandType::Any(ty) => match ty.form() {
+            Form::Reference(_, stored, access) => assign_to(stored, access, y.ty),
+            _ => Err(Refusal::NotReference(UnbuiltType::of_type(ty))),
+        },
     }
 }
 
@@ -71,15 +43,7 @@ fn assign_to<'a>(
     if !operand_is_constructible(OperandType::of(stored)) {
         return Err(Refusal::NotConstructible(UnbuiltType::of_type(stored)));
     }
-    let loaded = load_type(y)?;
-    write_to(stored, loaded)
-}
-
-#[inline(always)]
-fn write_to<'a>(stored: &'a Type, value: OperandType<'a>) -> Result<&'a Type, Refusal<'a>>
-    ensures { answer_view (λ t. view t.now) result
-        ≡ written (view stored.now) (given_type value.entry) }
-{
+    let value = load_type(y)?;
     if converts(value, stored) {
         Ok(stored)
     } else {
@@ -94,42 +58,21 @@ pub fn increment<'a>(x: &Operand<'a>) -> Result<&'a Type, Refusal<'a>>
 {
     match x.ty {
         OperandType::Value(_, _) => Err(Refusal::NotReference(UnbuiltType::of(x.ty))),
-        OperandType::Any(ty) => increment_type(ty),
-    }
-}
-
-fn increment_type<'a>(x: &'a Type) -> Result<&'a Type, Refusal<'a>>
-    ensures { answer_view (λ t. view t.now) result ≡ incremented (view x.now) }
-{
-    match x.form() {
-        Form::Reference(_, stored, access) => increment_in(stored, access),
-        _ => Err(Refusal::NotReference(UnbuiltType::of_type(x))),
-    }
-}
-
-fn increment_in<'a>(stored: &'a Type, access: AccessMode) -> Result<&'a Type, Refusal<'a>>
-    ensures { answer_view (λ t. view t.now) result ≡ incremented_in (view stored.now) access }
-{
-    match access {
-        AccessMode::ReadWrite => count(stored),
-        _ => Err(Refusal::NotReadWrite),
+        OperandType::Any(ty) => match ty.form() {
+            Form::Reference(_, stored, AccessMode::ReadWrite) => count(stored),
+            Form::Reference(_, _, _) => Err(Refusal::NotReadWrite),
+            _ => Err(Refusal::NotReference(UnbuiltType::of_type(ty))),
+        },
     }
 }
 
 fn count<'a>(stored: &'a Type) -> Result<&'a Type, Refusal<'a>>
     ensures { answer_view (λ t. view t.now) result ≡ incremented_in (view stored.now) ReadWrite }
 {
-    if is_counter(stored) {
-        Ok(stored)
-    } else {
-        Err(Refusal::NotInteger(UnbuiltType::of_type(stored)))
+    match stored.form() {
+        Form::Scalar(Scalar::I32 | Scalar::U32) => Ok(stored),
+        _ => Err(Refusal::NotInteger(UnbuiltType::of_type(stored))),
     }
-}
-
-fn is_counter(ty: &Type) -> bool
-    ensures { result ≡ counter (view ty.now) }
-{
-    matches!(ty.form(), Form::Scalar(Scalar::I32 | Scalar::U32))
 }
 
 /// The type to which `x OP= y` writes (WGSL, "Compound Assignment"); by `=` that of `assign`. Refused, in this order, by
@@ -178,36 +121,11 @@ fn assign_with<'a>(
 {
     match x {
         OperandType::Value(_, _) => Err(Refusal::NotReference(UnbuiltType::of(x))),
-        OperandType::Any(ty) => assign_type_with(operator, ty, y),
-    }
-}
-
-fn assign_type_with<'a>(
-    operator: BinaryOperator,
-    x: &'a Type,
-    y: &Operand<'a>,
-) -> Result<&'a Type, Refusal<'a>>
-    ensures { IsAssignedBy operator (view x.now) (given y.now)
-        (answer_view (λ t. view t.now) result) }
-{
-    match x.form() {
-        Form::Reference(_, stored, access) => assign_in(operator, stored, access, y),
-        _ => Err(Refusal::NotReference(UnbuiltType::of_type(x))),
-    }
-}
-
-fn assign_in<'a>(
-    operator: BinaryOperator,
-    stored: &'a Type,
-    access: AccessMode,
-    y: &Operand<'a>,
-) -> Result<&'a Type, Refusal<'a>>
-    ensures { IsCompoundTo operator (view stored.now) access (given y.now)
-        (answer_view (λ t. view t.now) result) }
-{
-    match access {
-        AccessMode::ReadWrite => assign_result(operator, stored, y),
-        _ => Err(Refusal::NotReadWrite),
+        OperandType::Any(ty) => match ty.form() {
+            Form::Reference(_, stored, AccessMode::ReadWrite) => assign_result(operator, stored, y),
+            Form::Reference(_, _, _) => Err(Refusal::NotReadWrite),
+            _ => Err(Refusal::NotReference(UnbuiltType::of_type(ty))),
+        },
     }
 }
 

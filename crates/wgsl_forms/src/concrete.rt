@@ -1,29 +1,15 @@
 // Abstract types, and the concrete type for each.
 ghost use Rattle.std.specs.Prelude.{◌≡◌, IfOk};
 ghost use Rattle.std.specs.Fmt.{WritesOnOk};
-ghost use Rattle.wgsl_rules.specs.types.Spelling.{wgsl_spelling};
-ghost use Rattle.wgsl_rules.specs.types.Types.{mat, scalar as scalar_type};
-ghost use Rattle.wgsl_rules.specs.standard.Overloads.{type_with};
-ghost use Rattle.wgsl_core.specs.View.{view, struct_view};
+ghost use Rattle.wgsl_forms.specs.Prelude.{wgsl_spelling, mat, scalar as scalar_type, type_with, view, struct_view, given_type};
 ghost use Rattle.wgsl_core.specs.ResultStruct.{struct_type};
-ghost use Rattle.wgsl_standard.specs.Operands.{given_type};
 ghost use Rattle.wgsl_forms.specs.Concrete.{abstract_result as abstract_there, has_abstract_type as abstract_type, concrete_of};
 ghost use Rattle.wgsl_forms.specs.Views.{element_view};
 ghost use Rattle.wgsl_forms.specs.internal.Results.{abstract_name, in_f32};
 
-use crate::form::Element;
-use std::alloc::{AllocError, Global};
-use std::fmt;
-use std::fmt::Write;
-use wgsl_core::ty::form::Form;
+use crate::prelude::*;
 use wgsl_core::ty::result_type::result_struct;
-use wgsl_core::ty::show::{write_count, write_type};
-use wgsl_core::ty::{StructType, Type};
-use wgsl_standard::operand::OperandType;
-use wgsl_syntax::overload::Dimensions;
 use wgsl_syntax::result_struct::{ResultFunction, ResultPrecision, ResultShape, ResultStruct};
-use wgsl_syntax::rules::RuleSet;
-use wgsl_syntax::scalar::Scalar;
 
 /// The function and the shape of the result struct of an abstract float.
 #[tactic(auto, using(crate::proofs::AbstractResults::recognised))]

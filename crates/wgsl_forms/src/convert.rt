@@ -1,20 +1,11 @@
 // Whether types of operands convert to others.
 ghost use Rattle.std.specs.Prelude.{◌≡◌, ◌↔◌, IsTrue, None};
-ghost use Rattle.wgsl_rules.specs.types.Types.{scalar as scalar_type, within};
-ghost use Rattle.wgsl_rules.specs.conversion.Conversion.{ConvertsTo};
-ghost use Rattle.wgsl_rules.specs.standard.Overloads.{type_with};
+ghost use Rattle.wgsl_forms.specs.Prelude.{scalar as scalar_type, within, ConvertsTo, type_with, view, given_type};
 ghost use Rattle.wgsl_core.specs.Forms.{layer_of};
-ghost use Rattle.wgsl_core.specs.View.{view};
-ghost use Rattle.wgsl_standard.specs.Operands.{given_type};
 ghost use Rattle.wgsl_forms.specs.Convert.{converts as converts_there};
 
+use crate::prelude::*;
 use wgsl_core::conversion::scalar_rank;
-use wgsl_core::ty::Type;
-use wgsl_core::ty::form::Form;
-use wgsl_standard::operand::OperandType;
-use wgsl_syntax::layer::Layer;
-use wgsl_syntax::overload::Dimensions;
-use wgsl_syntax::scalar::Scalar;
 
 /// Whether the type of an operand converts to a type (WGSL, "Conversion Rank").
 #[inline(always)]

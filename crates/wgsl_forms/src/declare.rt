@@ -1,26 +1,12 @@
 // Declarations without memory, and the phony assignment.
 ghost use Rattle.std.specs.Prelude.{◌≡◌, option_map};
-ghost use Rattle.wgsl_core.specs.View.{view};
-ghost use Rattle.wgsl_standard.specs.Operands.{given_type};
-ghost use Rattle.wgsl_rules.specs.types.Types.{scalar as scalar_type};
+ghost use Rattle.wgsl_forms.specs.Prelude.{view, given_type, scalar as scalar_type, Let};
 ghost use Rattle.wgsl_forms.specs.Concrete.{concrete_of};
 ghost use Rattle.wgsl_forms.specs.Convert.{converted};
-ghost use Rattle.wgsl_forms.specs.declared.declare.Declaration.TheVariants.{Let};
-ghost use Rattle.wgsl_forms.specs.Declare.{declared, is_const_type as may_be_const, is_let_type as may_be_named, is_override_type as may_be_override, may_be_let as may_be_let_there, named_by_const, named_by_let, named_by_override, overridden, taken, taken_loaded};
+ghost use Rattle.wgsl_forms.specs.Declare.{declared, is_const_type as may_be_const, is_let_type as may_be_named, is_override_type as may_be_override, may_be_let as may_be_let_there, named_by_const, named_by_let, named_by_override, overridden, taken};
 ghost use Rattle.wgsl_forms.specs.Views.{answer_view, given, unbuilt_view};
 
-use crate::concrete::{concrete_scalar, has_abstract_type, made_concrete};
-use crate::convert::converts;
-use crate::expression::is_const_expression;
-use crate::form::UnbuiltType;
-use crate::kinds::{is_constructible, is_handle, operand_is_constructible};
-use crate::load::load_type;
-use crate::refusal::Refusal;
-use wgsl_core::ty::Type;
-use wgsl_core::ty::form::Form;
-use wgsl_standard::operand::{Operand, OperandType};
-use wgsl_syntax::overload::Dimensions;
-use wgsl_syntax::scalar::Scalar;
+use crate::prelude::*;
 
 /// A declaration without memory.
 #[derive(Clone, Copy)]
@@ -45,23 +31,13 @@ pub fn declare<'a>(
         ≡ declared declaration (given value.now) (option_map (λ t. view t.now) ty.entry) }
 {
     match declaration {
-        Declaration::Let => declare_let(value, ty),
+        Declaration::Let => match ty {
+            Some(ty) => let_of(value.ty, ty),
+            None => discard(value),
+        },
         _ if !is_const_expression(value) => Err(Refusal::NotConst),
         Declaration::Const => const_of(value.ty, ty),
         Declaration::Override => override_of(value.ty, ty),
-    }
-}
-
-fn declare_let<'a>(
-    value: &Operand<'a>,
-    ty: Option<&'a Type>,
-) -> Result<UnbuiltType<'a>, Refusal<'a>>
-    ensures { answer_view unbuilt_view result
-        ≡ declared Let (given value.now) (option_map (λ t. view t.now) ty.entry) }
-{
-    match ty {
-        Some(ty) => let_of(value.ty, ty),
-        None => discard(value),
     }
 }
 
@@ -95,13 +71,7 @@ pub(crate) fn convert_to<'a>(
 pub fn discard<'a>(value: &Operand<'a>) -> Result<UnbuiltType<'a>, Refusal<'a>>
     ensures { answer_view unbuilt_view result ≡ taken (given value.now).of_type }
 {
-    let loaded = load_type(value.ty)?;
-    take(loaded)
-}
-
-fn take<'a>(value: OperandType<'a>) -> Result<UnbuiltType<'a>, Refusal<'a>>
-    ensures { answer_view unbuilt_view result ≡ taken_loaded (given_type value.entry) }
-{
+    let value = load_type(value.ty)?;
     if operand_may_be_let(value) {
         Ok(concrete(value))
     } else {
@@ -226,6 +196,7 @@ fn is_override_scalar(scalar: Scalar) -> bool
 }
 
 /// Whether the type of a value, made concrete, is that of an override.
+#[tactic(auto, using(crate::proofs::Overrides::no_override))]
 fn is_override_value(ty: OperandType<'_>) -> bool
     ensures { result ≡ may_be_override (concrete_of (given_type ty.entry)) }
 {
@@ -234,15 +205,9 @@ fn is_override_value(ty: OperandType<'_>) -> bool
             is_override_scalar(concrete_scalar(scalar))
         }
         OperandType::Value(_, _) => false,
-        OperandType::Any(ty) => is_override_if_concrete(ty),
-    }
-}
-
-fn is_override_if_concrete(ty: &Type) -> bool
-    ensures { result ≡ may_be_override (concrete_of (view ty.now)) }
-{
-    match ty.scalar() {
-        Some(scalar) => is_override_scalar(concrete_scalar(scalar)),
-        None => false,
+        OperandType::Any(ty) => match ty.scalar() {
+            Some(scalar) => is_override_scalar(concrete_scalar(scalar)),
+            None => false,
+        },
     }
 }

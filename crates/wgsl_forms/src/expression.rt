@@ -5,9 +5,7 @@ ghost use Rattle.wgsl_forms.specs.Concrete.{has_abstract_type as abstract_type};
 ghost use Rattle.wgsl_forms.specs.Expressions.{is_const_expression as const_expression};
 ghost use Rattle.wgsl_forms.specs.Views.{given};
 
-use crate::concrete::{has_abstract_type, is_abstract_scalar};
-use crate::memory::behind;
-use wgsl_standard::operand::{Operand, OperandType};
+use crate::prelude::*;
 
 /// Whether the operand is a const-expression: it is marked as one, or its type is abstract. A reference or a pointer
 /// never is one.

@@ -1,32 +1,17 @@
 // Conditions, and the values that functions return.
 ghost use Rattle.std.specs.Prelude.{◌≡◌};
-ghost use Rattle.wgsl_core.specs.View.{view};
-ghost use Rattle.wgsl_standard.specs.Operands.{given_type};
-ghost use Rattle.wgsl_forms.specs.Flow.{condition as condition_there, condition_loaded, is_bool as is_bool_there, returned as returned_there, returned_loaded};
+ghost use Rattle.wgsl_forms.specs.Prelude.{view, given_type};
+ghost use Rattle.wgsl_forms.specs.Flow.{condition as condition_there, is_bool as is_bool_there, returned as returned_there};
 ghost use Rattle.wgsl_forms.specs.Views.{answer_view, unbuilt_view};
 
-use crate::convert::converts;
-use crate::declare::is_const_type;
-use crate::form::UnbuiltType;
-use crate::load::load_type;
-use crate::refusal::Refusal;
-use wgsl_core::ty::Type;
-use wgsl_standard::operand::{Operand, OperandType};
-use wgsl_syntax::overload::Dimensions;
-use wgsl_syntax::scalar::Scalar;
+use crate::prelude::*;
 
 /// The type of the condition of `if`, `while`, `for`, `break if` or `const_assert`, `bool` (WGSL, "Control Flow"). Refused
 /// by the load, or by `NotCondition` of any other type.
 pub fn condition<'a>(value: &Operand<'a>) -> Result<UnbuiltType<'a>, Refusal<'a>>
     ensures { answer_view unbuilt_view result ≡ condition_there (given_type value.now.ty) }
 {
-    let loaded = load_type(value.ty)?;
-    bool_of(loaded)
-}
-
-fn bool_of<'a>(value: OperandType<'a>) -> Result<UnbuiltType<'a>, Refusal<'a>>
-    ensures { answer_view unbuilt_view result ≡ condition_loaded (given_type value.entry) }
-{
+    let value = load_type(value.ty)?;
     if is_bool(value) {
         Ok(UnbuiltType::of(value))
     } else {
@@ -40,14 +25,8 @@ fn is_bool(ty: OperandType<'_>) -> bool
     match ty {
         OperandType::Value(Dimensions::Single, scalar) => matches!(scalar, Scalar::Bool),
         OperandType::Value(_, _) => false,
-        OperandType::Any(ty) => is_bool_type(ty),
+        OperandType::Any(ty) => matches!(ty.scalar(), Some(Scalar::Bool)),
     }
-}
-
-fn is_bool_type(ty: &Type) -> bool
-    ensures { result ≡ is_bool_there (view ty.now) }
-{
-    matches!(ty.scalar(), Some(Scalar::Bool))
 }
 
 /// The type that a function returns, if `return` gives this value (WGSL, "Return Statement"). Refused, in this order, by
@@ -59,14 +38,7 @@ pub fn return_value<'a>(value: &Operand<'a>, ty: &'a Type) -> Result<UnbuiltType
     if !is_const_type(ty) {
         return Err(Refusal::NotConstructible(UnbuiltType::of_type(ty)));
     }
-    let loaded = load_type(value.ty)?;
-    returned(loaded, ty)
-}
-
-fn returned<'a>(value: OperandType<'a>, ty: &'a Type) -> Result<UnbuiltType<'a>, Refusal<'a>>
-    ensures { answer_view unbuilt_view result
-        ≡ returned_loaded (view ty.now) (given_type value.entry) }
-{
+    let value = load_type(value.ty)?;
     if converts(value, ty) {
         Ok(UnbuiltType::of_type(ty))
     } else {

@@ -1,24 +1,10 @@
 // The types that forms return, without allocating them.
 ghost use Rattle.std.specs.Prelude.{◌≡◌, IfOk, Some};
-ghost use Rattle.wgsl_core.specs.View.{view};
-ghost use Rattle.wgsl_rules.specs.types.Types.{within};
-ghost use Rattle.wgsl_standard.specs.Operands.{given_type};
+ghost use Rattle.wgsl_forms.specs.Prelude.{view, within, given_type};
 ghost use Rattle.wgsl_forms.specs.Expressions.{shown_as};
 ghost use Rattle.wgsl_forms.specs.Views.{element_view, form_type_view, referent_of, unbuilt_view, viewed};
 
-use crate::concrete::ConcreteType;
-use std::alloc::{AllocError, Global};
-use std::fmt;
-use std::fmt::Write;
-use wgsl_core::ty::Type;
-use wgsl_core::ty::show::write_type;
-use wgsl_standard::operand::OperandType;
-use wgsl_standard::substitution::value_type;
-use wgsl_syntax::address::{AccessMode, AddressSpace};
-use wgsl_syntax::layer::Layer;
-use wgsl_syntax::overload::Dimensions;
-use wgsl_syntax::rules::RuleSet;
-use wgsl_syntax::scalar::Scalar;
+use crate::prelude::*;
 
 /// A type that isn't built, or that is another type made concrete.
 #[derive(Clone, Copy)]

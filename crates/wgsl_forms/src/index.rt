@@ -1,27 +1,15 @@
 // Indexes into vectors, matrices and arrays.
 ghost use Rattle.std.specs.Prelude.{◌≡◌, ◌||◌, cond, not, option_map};
-ghost use Rattle.wgsl_rules.specs.types.Types.{mat, scalar as scalar_type};
-ghost use Rattle.wgsl_rules.specs.standard.Overloads.{type_with};
-ghost use Rattle.wgsl_core.specs.View.{view};
-ghost use Rattle.wgsl_standard.specs.Operands.{given_type};
+ghost use Rattle.wgsl_forms.specs.Prelude.{mat, scalar as scalar_type, type_with, view, given_type};
 ghost use Rattle.wgsl_forms.specs.Concrete.{concrete_of, has_abstract_type as abstract_type};
 ghost use Rattle.wgsl_forms.specs.Index.{element_in, element_of as element_there, element_referent, index_answer, indexed_by, is_index as index_type, is_vector as vector_type};
 ghost use Rattle.wgsl_forms.specs.Expressions.{is_const_expression as const_expression};
 ghost use Rattle.wgsl_forms.specs.Load.{loaded};
 ghost use Rattle.wgsl_forms.specs.Views.{answer_view, element_view, form_view, given, unbuilt_view};
 
-use crate::concrete::{concrete_component, has_abstract_type};
-use crate::expression::{has_abstract_operand_type, is_const_expression};
-use crate::form::{Element, Form, FormType, Referent, UnbuiltType};
-use crate::load::load_type;
-use crate::memory::{behind, reference_to};
-use crate::refusal::Refusal;
-use wgsl_core::ty::Type;
+use crate::form::Form;
+use crate::prelude::*;
 use wgsl_core::ty::form::Form as TypeForm;
-use wgsl_standard::operand::{Operand, OperandType};
-use wgsl_syntax::layer::Layer;
-use wgsl_syntax::overload::Dimensions;
-use wgsl_syntax::scalar::Scalar;
 
 /// What `x[index]` is (WGSL, "Vector Access", "Matrix Access" and "Array Access"): a component, a column or an element; a
 /// reference to it in memory. An abstract value is made concrete first, unless the index is a const-expression.

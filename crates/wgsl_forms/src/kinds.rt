@@ -1,13 +1,9 @@
 // The kinds of types that loads and declarations distinguish.
 ghost use Rattle.std.specs.Prelude.{◌≡◌};
-ghost use Rattle.wgsl_core.specs.View.{view, member_view};
-ghost use Rattle.wgsl_core.specs.internal.View.{members_view};
-ghost use Rattle.wgsl_standard.specs.Operands.{given_type};
-ghost use Rattle.wgsl_forms.specs.Kinds.{has_fixed_footprint as fixed_there, have_fixed_footprint as all_fixed_there, is_constructible as constructible, is_handle as handle, is_host_shareable as host_shareable, are_host_shareable as all_host_shareable, has_no_array as no_array_there, have_no_array as no_arrays_there};
+ghost use Rattle.wgsl_forms.specs.Prelude.{view, member_view, members_view, given_type};
+ghost use Rattle.wgsl_forms.specs.Kinds.{has_fixed_footprint as fixed_there, have_fixed_footprint as all_fixed_there, is_constructible as constructible, is_handle as handle, is_host_shareable as host_shareable, are_host_shareable as all_host_shareable, is_concrete_number as concrete_number, has_no_array as no_array_there, have_no_array as no_arrays_there};
 
-use wgsl_core::ty::form::Form;
-use wgsl_core::ty::{StructMemberType, Type};
-use wgsl_standard::operand::OperandType;
+use crate::prelude::*;
 
 /// Whether values of the type have one size: a scalar, a vector, a matrix, an array with a count or a struct, of such types,
 /// and perhaps atomics (WGSL, "Fixed-Footprint Types").
@@ -15,29 +11,13 @@ use wgsl_standard::operand::OperandType;
 pub fn has_fixed_footprint(atomics: bool, ty: &Type) -> bool
     ensures { result ≡ fixed_there atomics (view ty.now) }
 {
-    match ty {
-        Type::Bool
-        | Type::AbstractInt
-        | Type::AbstractFloat
-        | Type::I32
-        | Type::U32
-        | Type::F32
-        | Type::F16
-        | Type::I64
-        | Type::U64
-        | Type::F64 => true,
-        Type::Array(t, n) => n.is_some() && has_fixed_footprint(atomics, t),
-        Type::Vec(_, t) => has_fixed_footprint(atomics, t),
-        Type::Mat(_, _, t) => has_fixed_footprint(atomics, t),
-        Type::Struct(s) => have_fixed_footprint(atomics, &s.members),
-        Type::Atomic(_) => atomics,
-        Type::Ptr(_, _, _)
-        | Type::Ref(_, _, _)
-        | Type::Texture(_)
-        | Type::Sampler(_)
-        | Type::BindingArray(_, _)
-        | Type::RayQuery(_)
-        | Type::AccelerationStructure(_) => false,
+    match ty.form() {
+        Form::Scalar(_) => true,
+        Form::Array(n, t) => n.is_some() && has_fixed_footprint(atomics, t),
+        Form::Vector(_, t) | Form::Matrix(_, _, t) => has_fixed_footprint(atomics, t),
+        Form::Struct(s) => have_fixed_footprint(atomics, &s.members),
+        Form::Atomic(_) => atomics,
+        _ => false,
     }
 }
 
@@ -46,18 +26,11 @@ pub(crate) fn have_fixed_footprint(atomics: bool, members: &[StructMemberType]) 
     ensures { result ≡ all_fixed_there atomics (members_view members.now) }
 {
     for member in members {
-        if !member_has_fixed_footprint(atomics, member) {
+        if !has_fixed_footprint(atomics, &member.ty) {
             return false;
         }
     }
     true
-}
-
-#[cycle(footprint)]
-fn member_has_fixed_footprint(atomics: bool, member: &StructMemberType) -> bool
-    ensures { result ≡ fixed_there atomics (member_view member.now).ty }
-{
-    has_fixed_footprint(atomics, &member.ty)
 }
 
 /// Whether values of the type can be made (WGSL, "Constructible Types"). It may be abstract.
@@ -90,23 +63,13 @@ pub fn operand_is_constructible(ty: OperandType<'_>) -> bool
 pub fn is_host_shareable(ty: &Type) -> bool
     ensures { result ≡ host_shareable (view ty.now) }
 {
-    match ty {
-        Type::I32 | Type::U32 | Type::F32 | Type::F16 | Type::I64 | Type::U64 | Type::F64 => true,
-        Type::Array(t, _) => is_host_shareable(t),
-        Type::Vec(_, t) => is_host_shareable(t),
-        Type::Mat(_, _, t) => is_host_shareable(t),
-        Type::Atomic(t) => is_host_shareable(t),
-        Type::Struct(s) => are_host_shareable(&s.members),
-        Type::Bool
-        | Type::AbstractInt
-        | Type::AbstractFloat
-        | Type::Ptr(_, _, _)
-        | Type::Ref(_, _, _)
-        | Type::Texture(_)
-        | Type::Sampler(_)
-        | Type::BindingArray(_, _)
-        | Type::RayQuery(_)
-        | Type::AccelerationStructure(_) => false,
+    match ty.form() {
+        Form::Scalar(scalar) => is_concrete_number(scalar),
+        Form::Array(_, t) | Form::Vector(_, t) | Form::Matrix(_, _, t) | Form::Atomic(t) => {
+            is_host_shareable(t)
+        }
+        Form::Struct(s) => are_host_shareable(&s.members),
+        _ => false,
     }
 }
 
@@ -115,18 +78,20 @@ fn are_host_shareable(members: &Vec<StructMemberType>) -> bool
     ensures { result ≡ all_host_shareable (members_view members.now.items) }
 {
     for member in members {
-        if !member_is_host_shareable(member) {
+        if !is_host_shareable(&member.ty) {
             return false;
         }
     }
     true
 }
 
-#[cycle(host_shareable)]
-fn member_is_host_shareable(member: &StructMemberType) -> bool
-    ensures { result ≡ host_shareable (member_view member.now).ty }
+fn is_concrete_number(scalar: Scalar) -> bool
+    ensures { result ≡ concrete_number scalar }
 {
-    is_host_shareable(&member.ty)
+    !matches!(
+        scalar,
+        Scalar::Bool | Scalar::AbstractInt | Scalar::AbstractFloat
+    )
 }
 
 /// Whether the type is no array, and no struct with one inside.
@@ -134,29 +99,10 @@ fn member_is_host_shareable(member: &StructMemberType) -> bool
 pub fn has_no_array(ty: &Type) -> bool
     ensures { result ≡ no_array_there (view ty.now) }
 {
-    match ty {
-        Type::Array(_, _) => false,
-        Type::Struct(s) => have_no_array(&s.members),
-        Type::Bool
-        | Type::AbstractInt
-        | Type::AbstractFloat
-        | Type::I32
-        | Type::U32
-        | Type::F32
-        | Type::F16
-        | Type::I64
-        | Type::U64
-        | Type::F64
-        | Type::Vec(_, _)
-        | Type::Mat(_, _, _)
-        | Type::Atomic(_)
-        | Type::Ptr(_, _, _)
-        | Type::Ref(_, _, _)
-        | Type::Texture(_)
-        | Type::Sampler(_)
-        | Type::BindingArray(_, _)
-        | Type::RayQuery(_)
-        | Type::AccelerationStructure(_) => true,
+    match ty.form() {
+        Form::Array(_, _) => false,
+        Form::Struct(s) => have_no_array(&s.members),
+        _ => true,
     }
 }
 
@@ -165,16 +111,9 @@ fn have_no_array(members: &[StructMemberType]) -> bool
     ensures { result ≡ no_arrays_there (members_view members.now) }
 {
     for member in members {
-        if !member_has_no_array(member) {
+        if !has_no_array(&member.ty) {
             return false;
         }
     }
     true
-}
-
-#[cycle(no_array)]
-fn member_has_no_array(member: &StructMemberType) -> bool
-    ensures { result ≡ no_array_there (member_view member.now).ty }
-{
-    has_no_array(&member.ty)
 }

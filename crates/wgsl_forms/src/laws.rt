@@ -3,9 +3,7 @@ ghost use Rattle.wgsl_core.specs.View.{view};
 ghost use Rattle.wgsl_forms.specs.Laws.{AddressesInvert, MakesConcrete, PointersCompose, SwizzlesLoad};
 ghost use Rattle.wgsl_forms.specs.Views.{given};
 
-use wgsl_core::ty::Type;
-use wgsl_standard::operand::Operand;
-use wgsl_syntax::address::{AccessMode, AddressSpace};
+use crate::prelude::*;
 
 /// A pointer and the reference to the same memory have the same members and elements (WGSL, "Memory View Expressions").
 #[tactic(auto, using(crate::proofs::Composition::compose))]

@@ -2,15 +2,11 @@
 ghost use Rattle.std.specs.Prelude.{◌≡◌, IfOk, MatchOption, map};
 ghost use Rattle.wgsl_rules.specs.layout.Layout.{HasNoSize, HasNoSizeBy};
 ghost use Rattle.wgsl_core.specs.Layout.{IsLayoutOf, IsLayoutOfBy};
-ghost use Rattle.wgsl_core.specs.View.{view, struct_view, member_view};
-ghost use Rattle.wgsl_core.specs.internal.View.{members_view};
+ghost use Rattle.wgsl_forms.specs.Prelude.{view, struct_view, member_view, members_view};
 ghost use Rattle.wgsl_forms.specs.Layout.{smallest_members, with_one_element};
 
-use std::alloc::{AllocError, Global};
+use crate::prelude::*;
 use wgsl_core::layout::StructLayout;
-use wgsl_core::ty::form::Form;
-use wgsl_core::ty::{StructMemberType, StructType, Type};
-use wgsl_syntax::rules::RuleSet;
 
 /// The smallest layout of a struct, whose last member may be a runtime-sized array, which then counts as one element
 /// (WGSL, "Minimum Binding Size"). None if the struct with one element there has no layout.

@@ -20,6 +20,7 @@ pub mod load;
 pub mod member;
 mod memory;
 pub mod one_answer;
+mod prelude;
 pub mod refusal;
 pub mod switch;
 pub mod variable;

@@ -1,21 +1,10 @@
 // Values of a list: arguments of functions and of constructors, conditions and returned values.
 ghost use Rattle.std.specs.Prelude.{◌≡◌, length, map};
-ghost use Rattle.wgsl_core.specs.View.{view};
-ghost use Rattle.wgsl_core.specs.internal.View.{members_view};
-ghost use Rattle.wgsl_standard.specs.Operands.{given_type};
-ghost use Rattle.wgsl_standard.specs.Texts.{types_given};
-ghost use Rattle.wgsl_forms.specs.Lists.{all_fit as all_fit_there, are_parameters as parameters_there, constructed, counted, each_fits as each_fits_there, fits as fits_there, list_fits, member_types, members_fit as members_fit_there, value_fits, taker_name, values_fit, words_of as words_there};
+ghost use Rattle.wgsl_forms.specs.Prelude.{view, members_view, given_type, types_given};
+ghost use Rattle.wgsl_forms.specs.Lists.{all_fit as all_fit_there, are_parameters as parameters_there, constructed, counted, each_fits as each_fits_there, fits as fits_there, list_fits, member_types, members_fit as members_fit_there, taker_name, words_of as words_there};
 ghost use Rattle.wgsl_forms.specs.Views.{answer_view, refusal_view, taker_view};
 
-use crate::convert::converts;
-use crate::declare::is_let_type;
-use crate::form::UnbuiltType;
-use crate::kinds::is_constructible;
-use crate::load::load_type;
-use crate::refusal::Refusal;
-use wgsl_core::ty::form::Form;
-use wgsl_core::ty::{StructMemberType, Type};
-use wgsl_standard::operand::{Operand, OperandType};
+use crate::prelude::*;
 
 /// What takes values.
 #[derive(Clone, Copy)]
@@ -110,13 +99,7 @@ fn each_fits<'a>(types: &'a [Type], values: &[Operand<'a>]) -> Result<(), Refusa
 pub(crate) fn fits<'a>(ty: &'a Type, value: OperandType<'a>) -> Result<(), Refusal<'a>>
     ensures { answer_view (λ u. tt) result ≡ fits_there (view ty.now) (given_type value.entry) }
 {
-    let loaded = load_type(value)?;
-    loaded_fits(ty, loaded)
-}
-
-fn loaded_fits<'a>(ty: &'a Type, value: OperandType<'a>) -> Result<(), Refusal<'a>>
-    ensures { answer_view (λ u. tt) result ≡ value_fits (view ty.now) (given_type value.entry) }
-{
+    let value = load_type(value)?;
     if converts(value, ty) {
         Ok(())
     } else {
@@ -143,6 +126,7 @@ pub fn construct_struct<'a>(ty: &'a Type, values: &[Operand<'a>]) -> Result<&'a 
     }
 }
 
+#[tactic(auto, using(crate::proofs::MemberTypes::as_many))]
 fn members_fit<'a>(
     name: &'a str,
     members: &'a [StructMemberType],
@@ -153,21 +137,8 @@ fn members_fit<'a>(
         (types_given values.now) }
 {
     if values.is_empty() {
-        Ok(())
-    } else {
-        member_values_fit(name, members, values)
+        return Ok(());
     }
-}
-
-#[tactic(auto, using(crate::proofs::MemberTypes::as_many))]
-fn member_values_fit<'a>(
-    name: &'a str,
-    members: &'a [StructMemberType],
-    values: &[Operand<'a>],
-) -> Result<(), Refusal<'a>>
-    ensures { answer_view (λ u. tt) result
-        ≡ values_fit name.now (member_types (members_view members.now)) (types_given values.now) }
-{
     count_is(name, number_of(members), values.len())?;
     each_member_fits(members, values)
 }

@@ -1,19 +1,11 @@
 // The load of a reference.
 ghost use Rattle.std.specs.Prelude.{◌≡◌};
-ghost use Rattle.wgsl_core.specs.View.{view};
-ghost use Rattle.wgsl_standard.specs.Operands.{given_type};
+ghost use Rattle.wgsl_forms.specs.Prelude.{view, given_type};
 ghost use Rattle.wgsl_forms.specs.Load.{is_loadable as loadable, load_answer, loaded, stored_loaded};
 ghost use Rattle.wgsl_forms.specs.Views.{answer_view, given};
 ghost use Rattle.wgsl_forms.specs.internal.References.{loaded_in};
 
-use crate::expression::is_const_expression;
-use crate::form::UnbuiltType;
-use crate::kinds::{is_constructible, is_handle};
-use crate::refusal::Refusal;
-use wgsl_core::ty::Type;
-use wgsl_core::ty::form::Form;
-use wgsl_standard::operand::{Operand, OperandType};
-use wgsl_syntax::address::{AccessMode, AddressSpace};
+use crate::prelude::*;
 
 /// An operand, loaded (WGSL, "Load Rule"): what is no reference stays. `NotRead` if the reference can't be read,
 /// `NotConstructible` if it holds something else than a constructible type or a handle.
@@ -34,7 +26,10 @@ pub fn load_type<'a>(ty: OperandType<'a>) -> Result<OperandType<'a>, Refusal<'a>
 {
     match ty {
         OperandType::Value(_, _) => Ok(ty),
-        OperandType::Any(of) => load_any(of),
+        OperandType::Any(of) => match of.form() {
+            Form::Reference(_, stored, access) => load_stored(OperandType::of(stored), access),
+            _ => Ok(ty),
+        },
     }
 }
 
@@ -48,16 +43,6 @@ pub(crate) fn load_in<'a>(
     match memory {
         Some((_, access)) => load_stored(ty, access),
         None => load_type(ty),
-    }
-}
-
-#[inline(always)]
-fn load_any<'a>(ty: &'a Type) -> Result<OperandType<'a>, Refusal<'a>>
-    ensures { answer_view given_type result ≡ loaded (view ty.now) }
-{
-    match ty.form() {
-        Form::Reference(_, stored, access) => load_stored(OperandType::of(stored), access),
-        _ => Ok(OperandType::Any(ty)),
     }
 }
 

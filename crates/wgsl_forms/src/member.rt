@@ -1,26 +1,15 @@
 // Members of structs and components of vectors.
 ghost use Rattle.std.specs.Prelude.{◌≡◌, nat_eq, not, take, option_map};
-ghost use Rattle.std.specs.List.{list_any};
-ghost use Rattle.wgsl_rules.specs.types.Types.{struct, vec};
-ghost use Rattle.wgsl_core.specs.View.{view, struct_view};
-ghost use Rattle.wgsl_core.specs.internal.View.{members_view};
-ghost use Rattle.wgsl_standard.specs.Operands.{given_type};
+ghost use Rattle.wgsl_forms.specs.Prelude.{list_any, struct, vec, view, struct_view, members_view, given_type};
 ghost use Rattle.wgsl_forms.specs.Load.{loaded};
 ghost use Rattle.wgsl_forms.specs.Member.{are_among as all_among, are_components as all_components, are_distinct as all_distinct, are_several, is_swizzle as swizzle, member_answer, member_named as named_there, part_named as part_there, part_of_letters as letters_name};
 ghost use Rattle.wgsl_forms.specs.Views.{answer_view, element_view, form_view, given};
 ghost use Rattle.wgsl_forms.specs.internal.Letters.{letters_of};
 ghost use Rattle.wgsl_forms.specs.internal.Parts.{part_view};
 
-use crate::expression::is_const_expression;
-use crate::form::{Element, Form, FormType, Referent, UnbuiltType};
-use crate::load::load_in;
-use crate::memory::{behind, reference_to};
-use crate::refusal::Refusal;
+use crate::form::Form;
+use crate::prelude::*;
 use wgsl_core::ty::form::Form as TypeForm;
-use wgsl_core::ty::{StructMemberType, Type};
-use wgsl_standard::operand::{Operand, OperandType};
-use wgsl_syntax::layer::Layer;
-use wgsl_syntax::overload::Dimensions;
 
 /// What a name stands for in a type.
 #[derive(Clone, Copy)]
@@ -129,12 +118,7 @@ fn are_distinct(letters: &[u8]) -> bool
 fn contains(letters: &[u8], letter: u8) -> bool
     ensures { result ≡ list_any (λ l. nat_eq l letter) letters.now }
 {
-    for other in letters {
-        if *other == letter {
-            return true;
-        }
-    }
-    false
+    letters.iter().any(|other| *other == letter)
 }
 
 /// What the name stands for in the type.
@@ -207,12 +191,7 @@ fn are_components(n: u8, name: &[u8]) -> bool
 fn are_among(n: u8, letters: Letters, name: &[u8]) -> bool
     ensures { result ≡ all_among (take n (letters_of letters)) name.now }
 {
-    for letter in name {
-        if !is_among(n, letters, *letter) {
-            return false;
-        }
-    }
-    true
+    name.iter().all(|letter| is_among(n, letters, *letter))
 }
 
 fn is_among(n: u8, letters: Letters, letter: u8) -> bool

@@ -1,15 +1,10 @@
 // The types to which references and pointers refer.
 ghost use Rattle.std.specs.Prelude.{◌≡◌};
-ghost use Rattle.wgsl_core.specs.View.{view};
-ghost use Rattle.wgsl_standard.specs.Operands.{given_type};
+ghost use Rattle.wgsl_forms.specs.Prelude.{view, given_type};
 ghost use Rattle.wgsl_forms.specs.Memory.{behind as lies_behind, memory_of};
 ghost use Rattle.wgsl_forms.specs.internal.References.{reference_to as reference_there};
 
-use crate::form::{MemoryView, Referent};
-use wgsl_core::ty::Type;
-use wgsl_core::ty::form::Form;
-use wgsl_standard::operand::OperandType;
-use wgsl_syntax::address::{AccessMode, AddressSpace};
+use crate::prelude::*;
 
 /// The type to which a reference or a pointer refers; any other type itself.
 #[derive(Clone, Copy)]
@@ -27,23 +22,12 @@ pub(crate) fn behind(ty: OperandType<'_>) -> Whole<'_>
 {
     match ty {
         OperandType::Value(_, _) => Whole { memory: None, ty },
-        OperandType::Any(of) => behind_type(of),
-    }
-}
-
-#[inline(always)]
-fn behind_type(ty: &Type) -> Whole<'_>
-    ensures memory { result.memory ≡ memory_of (view ty.now) }
-    ensures ty { given_type result.ty ≡ lies_behind (view ty.now) }
-{
-    match ty.form() {
-        Form::Reference(space, stored, access) | Form::Pointer(space, stored, access) => Whole {
-            memory: Some((space, access)),
-            ty: OperandType::Any(stored),
-        },
-        _ => Whole {
-            memory: None,
-            ty: OperandType::Any(ty),
+        OperandType::Any(of) => match of.form() {
+            Form::Reference(space, stored, access) | Form::Pointer(space, stored, access) => Whole {
+                memory: Some((space, access)),
+                ty: OperandType::Any(stored),
+            },
+            _ => Whole { memory: None, ty },
         },
     }
 }

@@ -1,10 +1,5 @@
 // Why a form has no type.
-use crate::form::UnbuiltType;
-use std::fmt;
-use std::fmt::Write;
-use wgsl_syntax::address::{AccessMode, AddressSpace};
-use wgsl_syntax::operator::{BinaryOperator, UnaryOperator};
-use wgsl_syntax::rules::RuleSet;
+use crate::prelude::*;
 
 /// Why a form has no type. The types aren't built, and names are borrowed.
 #[derive(Clone, Copy)]

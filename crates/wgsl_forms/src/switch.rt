@@ -1,19 +1,12 @@
 // The type of `switch`.
 ghost use Rattle.std.specs.Prelude.{◌≡◌, ◌∷◌, Ok, map};
-ghost use Rattle.wgsl_rules.specs.types.Types.{scalar as scalar_type};
-ghost use Rattle.wgsl_standard.specs.Operands.{given_type};
+ghost use Rattle.wgsl_forms.specs.Prelude.{scalar as scalar_type, given_type};
 ghost use Rattle.wgsl_forms.specs.Load.{loaded};
 ghost use Rattle.wgsl_forms.specs.Switch.{agrees as agrees_there, all_agree as all_agree_there, are_constant as constant_there, are_integers as integers_there, concrete_integer as concrete_there, first_concrete as first_there, integer_loaded, is_integer_value, other_integer as other_there, switch_type as switch_there, switched};
 ghost use Rattle.wgsl_forms.specs.Views.{answer_view, given, unbuilt_view};
 
-use crate::expression::is_const_expression;
-use crate::form::{Element, UnbuiltType};
 use crate::index::is_index;
-use crate::load::load_type;
-use crate::refusal::Refusal;
-use wgsl_standard::operand::{Operand, OperandType};
-use wgsl_syntax::overload::Dimensions;
-use wgsl_syntax::scalar::Scalar;
+use crate::prelude::*;
 
 /// The type of a `switch` with that selector and these cases, `i32` or `u32` (WGSL, "Switch Statement"). Refused, in this
 /// order, by the load of the selector or a case, or `NotInteger`; by `NotConst` if a case is no const-expression; by

@@ -1,26 +1,10 @@
 // Variables, and which types those of an address space can hold.
 ghost use Rattle.std.specs.Prelude.{◌≡◌, None, Some, option_map};
-ghost use Rattle.wgsl_rules.specs.types.Types.{reference};
-ghost use Rattle.wgsl_core.specs.View.{view, member_view};
-ghost use Rattle.wgsl_core.specs.internal.View.{members_view};
-ghost use Rattle.wgsl_standard.specs.Operands.{given_type};
-ghost use Rattle.wgsl_forms.specs.Variable.{access_of as access_there, ends_in_array as ends_there, has_initializer as initializer_there, holds as holds_there, initialized_in, initialized_variable as initialized_there, is_handle_or_array as handle_there, may_end as may_end_there, may_end_members as members_end_there, may_initialize as may_initialize_there, not_held as not_held_there, stored, variable as variable_there, variable_in};
+ghost use Rattle.wgsl_forms.specs.Prelude.{reference, view, member_view, members_view, given_type};
+ghost use Rattle.wgsl_forms.specs.Variable.{access_of as access_there, ends_in_array as ends_there, has_initializer as initializer_there, holds as holds_there, initialized_variable as initialized_there, is_handle_or_array as handle_there, may_end as may_end_there, may_end_members as members_end_there, may_initialize as may_initialize_there, not_held as not_held_there, stored, variable as variable_there};
 ghost use Rattle.wgsl_forms.specs.Views.{answer_view, form_type_view, given, refusal_view, unbuilt_view};
 
-use crate::concrete::has_abstract_type;
-use crate::declare::{concrete, convert_to, is_const_type};
-use crate::expression::is_const_expression;
-use crate::form::{FormType, MemoryView, Referent, UnbuiltType};
-use crate::kinds::{
-    has_fixed_footprint, has_no_array, have_fixed_footprint, is_constructible, is_handle,
-    is_host_shareable, operand_is_constructible,
-};
-use crate::load::load_type;
-use crate::refusal::Refusal;
-use wgsl_core::ty::form::Form;
-use wgsl_core::ty::{StructMemberType, Type};
-use wgsl_standard::operand::{Operand, OperandType};
-use wgsl_syntax::address::{AccessMode, AddressSpace};
+use crate::prelude::*;
 
 /// Whether the type has a fixed footprint, or ends in a runtime-sized array.
 fn ends_in_array(atomics: bool, ty: &Type) -> bool
@@ -36,15 +20,9 @@ fn members_end_in_array(atomics: bool, members: &[StructMemberType]) -> bool
     ensures { result ≡ members_end_there atomics (members_view members.now) }
 {
     match members.split_last() {
-        Some((last, rest)) => have_fixed_footprint(atomics, rest) && member_may_end(atomics, last),
+        Some((last, rest)) => have_fixed_footprint(atomics, rest) && may_end(atomics, &last.ty),
         None => true,
     }
-}
-
-fn member_may_end(atomics: bool, member: &StructMemberType) -> bool
-    ensures { result ≡ may_end_there atomics (member_view member.now).ty }
-{
-    may_end(atomics, &member.ty)
 }
 
 fn may_end(atomics: bool, ty: &Type) -> bool
@@ -94,16 +72,6 @@ pub fn variable<'a>(
     ensures { answer_view form_type_view result ≡ variable_there space access (view ty.now) }
 {
     let access = access_of(space, access)?;
-    variable_in(space, access, ty)
-}
-
-fn variable_in<'a>(
-    space: AddressSpace,
-    access: AccessMode,
-    ty: &'a Type,
-) -> Result<FormType<'a>, Refusal<'a>>
-    ensures { answer_view form_type_view result ≡ variable_in space (view ty.now) access }
-{
     if !holds(space, access, ty) {
         return Err(not_held(space, UnbuiltType::of_type(ty)));
     }
@@ -157,18 +125,6 @@ pub fn initialized_variable<'a>(
         ≡ initialized_there space access (given value.now) (option_map (λ t. view t.now) ty.entry) }
 {
     let access = access_of(space, access)?;
-    initialized_in(space, access, value, ty)
-}
-
-fn initialized_in<'a>(
-    space: AddressSpace,
-    access: AccessMode,
-    value: &Operand<'a>,
-    ty: Option<&'a Type>,
-) -> Result<FormType<'a>, Refusal<'a>>
-    ensures { answer_view form_type_view result
-        ≡ initialized_in space (given value.now) (option_map (λ t. view t.now) ty.entry) access }
-{
     if !has_initializer(space) {
         return Err(Refusal::Initialized(space));
     }

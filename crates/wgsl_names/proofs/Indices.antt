@@ -1,12 +1,8 @@
 -- Locals by index.
-use Rattle.std.proofs.Common.{ℕ, suc, List, [], ◌∷◌, ◌++◌, Bool, true, false, Option, Some, cond, ◌≡◌, ◌≤◌, ◌<◌, length, reverse, refl, sym, ap, ◌∙◌, subst, arith, bytes_eq, drop, slice_get, BTreeMap, nat_cmp, Bor}
-use Rattle.std.proofs.lemmas.List.{reverse-append, length-reverse}
-use Rattle.std.proofs.lemmas.Map.Text.{btree_map_updates_str}
+use Rattle.wgsl_names.proofs.Common.{ℕ, suc, List, [], ◌∷◌, ◌++◌, Bool, true, false, Option, Some, cond, ◌≡◌, ◌≤◌, ◌<◌, length, reverse, refl, sym, ap, ◌∙◌}
+use Rattle.wgsl_names.proofs.Common.{subst, arith, bytes_eq, drop, slice_get, BTreeMap, nat_cmp, Bor, reverse-append, length-reverse, btree_map_updates_str}
+use Rattle.wgsl_names.proofs.Common.{get_by, slice_cmp, Local, Block, in_block, names_of, start, AreNested, Gives, IsIndex, IsIndexed}
 use Rattle.std.proofs.lemmas.Slice.Eq.{bytes_eq-Decides}
-use Rattle.std.specs.BTreeMap.{get_by}
-use Rattle.std.specs.Cmp.Lexicographic.{slice_cmp}
-use Rattle.wgsl_names.specs.declared.scope.Local.{Local}
-use Rattle.wgsl_names.specs.Indices.{Block, in_block, names_of, start, AreNested, Gives, IsIndex, IsIndexed}
 
 pub reverse_push : {A : Type 0} (xs : List A) (x : A) → reverse (xs ++ x ∷ []) ≡ x ∷ reverse xs
 reverse_push xs x = reverse-append xs (x ∷ [])

@@ -1,3 +1,4 @@
+pub mod Common
 pub mod Shorts
 pub mod Indices
 pub mod Scopes

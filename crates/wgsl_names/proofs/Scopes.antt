@@ -1,16 +1,12 @@
 -- Scopes, and the indices of names.
-use Rattle.std.proofs.Common.{ℕ, List, [], ◌∷◌, Bool, true, false, Option, Some, None, cond, ◌≡◌, ◌≤◌, ◌<◌, length, drop, refl, sym, ap, ◌∙◌, arith, ⊎_elim, is_some, le-leb, nat_le, bytes_eq, nat_cmp}
-use Rattle.std.proofs.Math.Logic.{∥∥₁_elim}
+use Rattle.wgsl_names.proofs.Common.{ℕ, List, [], ◌∷◌, Bool, true, false, Option, Some, None, cond, ◌≡◌, ◌≤◌, ◌<◌, length, drop, refl, sym, ap, ◌∙◌, arith}
+use Rattle.wgsl_names.proofs.Common.{⊎_elim, is_some, le-leb, nat_le, bytes_eq, nat_cmp, ∥∥₁_elim, get_by, slice_cmp, Local, Block, in_block, names_of, start}
+use Rattle.wgsl_names.proofs.Common.{AreNested, named, is_here, with_name, closed, since, before, cut, locals_of, starts_of, scope_view}
 use Rattle.std.proofs.Props.{props}
 use Rattle.std.proofs.lemmas.Bool.{cases_lt, lt-leb}
 use Rattle.std.specs.Coded.{×_prop, Unit-prop, le_prop}
 use Rattle.std.specs.Option.{option_or}
-use Rattle.std.specs.BTreeMap.{get_by}
-use Rattle.std.specs.Cmp.Lexicographic.{slice_cmp}
-use Rattle.wgsl_names.specs.declared.scope.Local.{Local}
 use Rattle.wgsl_names.specs.declared.scope.Locals.{Locals}
-use Rattle.wgsl_names.specs.Indices.{Block, in_block, names_of, start, AreNested}
-use Rattle.wgsl_names.specs.Scopes.{named, is_here, with_name, closed, since, before, cut, locals_of, starts_of, scope_view}
 
 -- `named`
 

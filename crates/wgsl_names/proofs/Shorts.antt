@@ -90,27 +90,19 @@ picked false b c F p q = q
 represents : (a f d e s g : Bool) (z l : Option ℕ) → (f ≡ true → d ≡ true) → (f ≡ true → e ≡ true → g ≡ true) → (g ≡ true → f ≡ true) → (g ≡ true → e ≡ true) →
     have_fixed_footprint a (standing_for f d e (leaf s) z l) ≡ pick a f g
 unfolding pick
-represents true true true true true g z l h i j k = refl
-represents true true true true false g z l h i j k = refl
-represents false true true true true g z l h i j k = sym (i refl refl)
-represents false true true true false g z l h i j k = sym (i refl refl)
-represents true true true false true g z l h i j k = refl
-represents true true true false false g z l h i j k = refl
+represents true true true true s g z l h i j k = refl
+represents false true true true s g z l h i j k = sym (i refl refl)
+represents true true true false s g z l h i j k = refl
 represents false true true false s true z l h i j k = absurd (cc (k refl))
-represents false true true false true false z l h i j k = refl
-represents false true true false false false z l h i j k = refl
+represents false true true false s false z l h i j k = refl
 represents a true false e s g z l h i j k = absurd (cc (h refl))
 represents true false true true s g z l h i j k = refl
-represents true false true false true g z l h i j k = refl
-represents true false true false false g z l h i j k = refl
-represents true false false e true g z l h i j k = refl
-represents true false false e false g z l h i j k = refl
+represents true false true false s g z l h i j k = refl
+represents true false false e s g z l h i j k = refl
 represents false false d e s true z l h i j k = absurd (cc (j refl))
 represents false false true true s false z l h i j k = refl
-represents false false true false true false z l h i j k = refl
-represents false false true false false false z l h i j k = refl
-represents false false false e true false z l h i j k = refl
-represents false false false e false false z l h i j k = refl
+represents false false true false s false z l h i j k = refl
+represents false false false e s false z l h i j k = refl
 
 footprint : (a : Bool) (z l : Option ℕ) (ms : Members) →
     have_fixed_footprint a (standing_for (have_fixed_footprint true ms) (may_end_members true ms) (may_end_members false ms) (leaf (are_host_shareable ms)) z l) ≡ have_fixed_footprint a ms
@@ -120,28 +112,18 @@ footprint a z l ms =
 
 represents_end : (a f d e s : Bool) (z l : Option ℕ) → (f ≡ true → d ≡ true) → (e ≡ true → d ≡ true) → may_end_members a (standing_for f d e (leaf s) z l) ≡ pick a d e
 unfolding pick
-represents_end true true true true true z l h i = refl
-represents_end true true true true false z l h i = refl
-represents_end false true true true true z l h i = refl
-represents_end false true true true false z l h i = refl
-represents_end true true true false true z l h i = refl
-represents_end true true true false false z l h i = refl
-represents_end false true true false true z l h i = refl
-represents_end false true true false false z l h i = refl
+represents_end true true true true s z l h i = refl
+represents_end false true true true s z l h i = refl
+represents_end true true true false s z l h i = refl
+represents_end false true true false s z l h i = refl
 represents_end a true false e s z l h i = absurd (cc (h refl))
-represents_end true false true true true z l h i = refl
-represents_end true false true true false z l h i = refl
-represents_end false false true true true z l h i = refl
-represents_end false false true true false z l h i = refl
-represents_end true false true false true z l h i = refl
-represents_end true false true false false z l h i = refl
-represents_end false false true false true z l h i = refl
-represents_end false false true false false z l h i = refl
+represents_end true false true true s z l h i = refl
+represents_end false false true true s z l h i = refl
+represents_end true false true false s z l h i = refl
+represents_end false false true false s z l h i = refl
 represents_end a false false true s z l h i = absurd (cc (i refl))
-represents_end true false false false true z l h i = refl
-represents_end true false false false false z l h i = refl
-represents_end false false false false true z l h i = refl
-represents_end false false false false false z l h i = refl
+represents_end true false false false s z l h i = refl
+represents_end false false false false s z l h i = refl
 
 end : (a : Bool) (z l : Option ℕ) (ms : Members) →
     may_end_members a (standing_for (have_fixed_footprint true ms) (may_end_members true ms) (may_end_members false ms) (leaf (are_host_shareable ms)) z l) ≡ may_end_members a ms

@@ -1,13 +1,11 @@
 -- Structs and the indices of their names.
-use Rattle.std.proofs.Common.{ℕ, List, [], ◌∷◌, ◌++◌, Bool, true, false, Option, Some, None, IfSome, cond, ◌≡◌, ◌+◌, ◌<◌, length, slice_get, refl, sym, ap, ◌∙◌, arith, length-append, Bor, option_and_then, bytes_eq}
-use Rattle.std.proofs.lemmas.List.{get_or_append_left}
-use Rattle.std.proofs.lemmas.Map.Text.{btree_map_updates_str}
+use Rattle.wgsl_names.proofs.Common.{ℕ, List, [], ◌∷◌, ◌++◌, Bool, true, false, Option, Some, None, IfSome, cond, ◌≡◌, ◌+◌, ◌<◌, length, slice_get, refl, sym}
+use Rattle.wgsl_names.proofs.Common.{ap, ◌∙◌, arith, length-append, Bor, option_and_then, bytes_eq, get_or_append_left, btree_map_updates_str, Gives}
 use Rattle.std.proofs.lemmas.Option.{slice_get-get_or}
 use Rattle.std.proofs.Math.Seq.{get_or-append_seam}
 use Rattle.wgsl_names.specs.declared.structs.Declared.{Declared}
 use Rattle.wgsl_names.specs.declared.structs.Structs.{Structs}
 use Rattle.wgsl_names.specs.StructNames.{AreNamed, IsDeclaredAs, index_of}
-use Rattle.wgsl_names.specs.Indices.{Gives}
 use Rattle.wgsl_names.proofs.Indices.{Index}
 
 longer : {A : Type 0} (xs : List A) (x : A) → length (xs ++ x ∷ []) ≡ length xs + 1

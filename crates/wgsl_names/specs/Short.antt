@@ -1,6 +1,6 @@
 -- Declared structs in types: by name, with at most two members that have the facts of all (WGSL, "Fixed-Footprint Types",
 -- "Constructible Types", "Host-shareable Types").
-use Rattle.std.specs.Prelude.{ℕ, List, [], Bool, true, false, Option, Some, None, ◌≡◌}
+use Rattle.std.specs.Prelude.{ℕ, List, [], Bool, true, false, Option, Some, None, cond, ◌≡◌}
 use Rattle.wgsl_syntax.specs.declared.scalar.Scalar.TheVariants.{Bool as TheBool, U32}
 use Rattle.wgsl_rules.specs.types.Types.{WgslType, Members, no_members, member, scalar, struct, atomic, array}
 use Rattle.wgsl_forms.specs.Kinds.{are_host_shareable, has_fixed_footprint, have_fixed_footprint, is_host_shareable}
@@ -18,8 +18,7 @@ pub record Facts : Type 0 where
 
 -- a number, or a `bool`
 abbrev pub leaf : Bool → WgslType
-leaf true = scalar U32
-leaf false = scalar TheBool
+leaf is_number = scalar (cond is_number U32 TheBool)
 
 abbrev pub the_atomic : WgslType
 the_atomic = atomic (scalar U32)

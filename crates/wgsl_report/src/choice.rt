@@ -1,8 +1,6 @@
 // The structs to report on: those with the names that are asked for, and those inside them.
 
-use crate::layers::inner_struct;
-use std::alloc::{AllocError, Global};
-use wgsl_source::module::Module;
+use crate::prelude::*;
 
 /// Which structs of a module to report on.
 #[derive(Drop)]

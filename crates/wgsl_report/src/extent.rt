@@ -3,12 +3,7 @@ ghost use Rattle.std.specs.Prelude.{◌≡◌, ◌↔◌, IsTrue, Some};
 ghost use Rattle.wgsl_rules.specs.layout.Layout.{IsExactly};
 ghost use Rattle.wgsl_report.specs.Extent.{IsInnermost, IsOutermostTooClose, IsRuntimeSized, IsTooClose, content_of, extent_of, position_of, shape_of};
 
-use crate::spaces::content::Content;
-use crate::spaces::layout::{Extent, Position, Shape, may_lie_apart};
-use wgsl_source::measured::{Count, MeasuredType, TypeKind};
-use wgsl_source::structure::Member;
-use wgsl_syntax::address::AddressSpace;
-use wgsl_syntax::scalar::Scalar;
+use crate::prelude::*;
 
 /// The shape, the size and the alignment of a type. A missing size is 0.
 pub fn extent_of(ty: &MeasuredType) -> Extent

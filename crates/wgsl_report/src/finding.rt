@@ -1,18 +1,22 @@
 // Broken rules of address spaces, and what would fix them.
 
-use crate::place::Place;
-use crate::write::{Piece, write_all};
-use std::alloc::AllocError;
+use crate::prelude::*;
 
-/// A rule that a variable or a member of a struct breaks, at an index of the text.
+/// A variable or a member of a struct, at an index of the text.
 #[derive(Clone, Copy)]
-pub struct Finding<'a> {
+pub struct Subject<'a> {
     pub at: usize,
     /// The struct, if it is a member.
     pub of: Option<&'a str>,
     pub name: &'a str,
     /// None if the rule is for every struct, or for the whole module.
     pub place: Option<Place>,
+}
+
+/// A rule that is broken.
+#[derive(Clone, Copy)]
+pub struct Finding<'a> {
+    pub subject: Subject<'a>,
     pub trouble: Trouble,
     /// Whether `requires uniform_buffer_standard_layout;` lifts the rule here.
     pub is_lifted: bool,
@@ -45,14 +49,16 @@ pub enum Trouble {
 }
 
 impl Trouble {
-    /// The message up to the number in what is wrong.
-    fn start(self) -> &'static str {
-        match self {
-            Trouble::Offset { .. } => "lies at ",
+    /// Writes what is wrong.
+    fn write_wrong(self, output: &mut String) -> Written {
+        let wrong = match self {
+            Trouble::Offset { offset, .. } => return write!(output, "lies at {offset}"),
             Trouble::Behind { .. } => "is a struct behind which the next member begins too soon",
             Trouble::Align { .. } => "has an `@align` that does not suit its type",
             Trouble::Size => "has a `@size` below the size of its type",
-            Trouble::Stride { .. } => "has elements with the stride ",
+            Trouble::Stride { stride } => {
+                return write!(output, "has elements with the stride {stride}");
+            }
             Trouble::Bool => "holds `bool`",
             Trouble::Atomic => "holds an atomic",
             Trouble::Array => "holds an array",
@@ -61,17 +67,20 @@ impl Trouble {
             Trouble::NoHandle => "is neither a sampler nor a texture",
             Trouble::NoBinding => "lacks `@group` or `@binding`",
             Trouble::NeedlessBinding => "has `@group` or `@binding`",
-        }
+        };
+        output.push_str(wrong)
     }
 
-    /// The message up to the number in what would fix it.
-    fn needs(self) -> &'static str {
-        match self {
-            Trouble::Offset { .. } => "it needs `@align(",
-            Trouble::Behind { .. } => "it needs `@size(",
-            Trouble::Align { .. } => "it needs a multiple of ",
+    /// Writes what would mend it.
+    fn write_mending(self, output: &mut String) -> Written {
+        let mending = match self {
+            Trouble::Offset { align, .. } => return write!(output, "it needs `@align({align})`"),
+            Trouble::Behind { room } => return write!(output, "it needs `@size({room})`"),
+            Trouble::Align { align } => return write!(output, "it needs a multiple of {align}"),
             Trouble::Size => "it needs no less",
-            Trouble::Stride { .. } => "these lie a multiple of ",
+            Trouble::Stride { .. } => {
+                "these lie a multiple of 16 bytes apart: use elements like `vec4<f32>`, or structs with a member of `@size(16)`"
+            }
             Trouble::Bool => "it needs `u32`",
             Trouble::Atomic => "none may stand: use `workgroup`, or `storage` with `read_write`",
             Trouble::Array => "none may stand: use vectors, matrices or members",
@@ -80,74 +89,37 @@ impl Trouble {
             Trouble::NoHandle => "it can't stand: use `var<uniform>` or `var<storage>`",
             Trouble::NoBinding => "it needs both",
             Trouble::NeedlessBinding => "it has no use for them",
-        }
-    }
-
-    /// The end of the message, after the number that would fix the member.
-    fn end(self) -> &'static str {
-        match self {
-            Trouble::Offset { .. } | Trouble::Behind { .. } => ")`",
-            Trouble::Stride { .. } => {
-                " bytes apart: use elements like `vec4<f32>`, or structs with a member of `@size(16)`"
-            }
-            _ => "",
-        }
-    }
-
-    /// The number in what is wrong, and the one in what would fix it.
-    fn numbers(self) -> (Option<u32>, Option<u32>) {
-        match self {
-            Trouble::Offset { offset, align } => (Some(offset), Some(align)),
-            Trouble::Behind { room } => (None, Some(room)),
-            Trouble::Align { align } => (None, Some(align)),
-            Trouble::Stride { stride } => (Some(stride), Some(16)),
-            _ => (None, None),
-        }
+        };
+        output.push_str(mending)
     }
 }
 
 impl<'a> Finding<'a> {
     /// Writes the message.
-    pub fn write_to(&self, output: &mut String) -> Result<(), AllocError> {
-        let trouble = self.trouble;
-        let (number, mending) = trouble.numbers();
-        self.write_name(output)?;
-        let lifted = if self.is_lifted {
+    pub fn write_to(&self, output: &mut String) -> Written {
+        let Subject {
+            of,
+            name,
+            place,
+            ..
+        } = self.subject;
+        match of {
+            Some(of) => write!(output, "`{of}.{name}` ")?,
+            None => write!(output, "`{name}` ")?,
+        }
+        self.trouble.write_wrong(output)?;
+        match place {
+            Some(place) => {
+                let place = place.text();
+                write!(output, "; in `{place}` ")?
+            }
+            None => output.push_str("; ")?,
+        }
+        self.trouble.write_mending(output)?;
+        output.push_str(if self.is_lifted {
             " (`requires uniform_buffer_standard_layout;` lifts this rule)"
         } else {
             ""
-        };
-        let (before, place, behind) = match self.place {
-            Some(place) => ("; in `", place.text(), "` "),
-            None => ("; ", "", ""),
-        };
-        let pieces = [
-            Piece::Text(trouble.start()),
-            Piece::Number(number),
-            Piece::Text(before),
-            Piece::Text(place),
-            Piece::Text(behind),
-            Piece::Text(trouble.needs()),
-            Piece::Number(mending),
-            Piece::Text(trouble.end()),
-            Piece::Text(lifted),
-        ];
-        write_all(output, &pieces)
-    }
-
-    /// Writes the name of the variable, or the names of the struct and its member.
-    fn write_name(&self, output: &mut String) -> Result<(), AllocError> {
-        let (of, dot) = match self.of {
-            Some(of) => (of, "."),
-            None => ("", ""),
-        };
-        let pieces = [
-            Piece::Text("`"),
-            Piece::Text(of),
-            Piece::Text(dot),
-            Piece::Text(self.name),
-            Piece::Text("` "),
-        ];
-        write_all(output, &pieces)
+        })
     }
 }

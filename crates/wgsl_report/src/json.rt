@@ -1,59 +1,37 @@
 // Layouts and bindings as an object of JSON.
 
-use crate::lines::Lines;
-use crate::message::{Message, Severity};
-use crate::resource::write_buffer;
-use crate::shown::once;
-use crate::source::Source;
-use crate::told::{end_of, min_binding_size, padding, stride_of};
+use crate::prelude::*;
 use crate::tree::write_tree;
-use crate::type_text::type_text;
-use crate::write::{Piece, write_all};
-use std::alloc::AllocError;
 use wgsl_source::entry::{EntryPoint, Override, WorkgroupExtent};
-use wgsl_source::measured::MeasuredType;
-use wgsl_source::structure::{Member, Struct};
-use wgsl_source::variable::Variable;
-use wgsl_syntax::address::AddressSpace;
-use wgsl_syntax::rules::RuleSet;
 
 /// Writes the chosen structs and all else of a module, on one line.
-pub fn write_json(output: &mut String, source: Source) -> Result<(), AllocError> {
-    let start = [
-        Piece::Text("{\"file\":\""),
-        Piece::Escaped(source.file),
-        Piece::Text("\",\"structs\":["),
-    ];
-    write_all(output, &start)?;
+pub fn write_json(output: &mut String, source: Source) -> Written {
+    let file = Escaped(source.file);
+    write!(output, r#"{{"file":"{file}","structs":["#)?;
     write_structs(output, source)?;
-    output.push_str("],\"leftOut\":[")?;
+    output.push_str(r#"],"leftOut":["#)?;
     for (index, name) in once(source.alloc, &source.module.left_out)?
         .iter()
         .enumerate()
     {
-        let quoted = [
-            Piece::Text(separator(index)),
-            Piece::Text("\""),
-            Piece::Escaped(*name),
-            Piece::Text("\""),
-        ];
-        write_all(output, &quoted)?;
+        let (comma, name) = (separator(index), Escaped(*name));
+        write!(output, r#"{comma}"{name}""#)?;
     }
-    output.push_str("],\"variables\":[")?;
+    output.push_str(r#"],"variables":["#)?;
     for (index, variable) in source.module.variables.iter().enumerate() {
         write_variable(output, source, index, variable)?;
     }
-    output.push_str("],\"overrides\":[")?;
+    output.push_str(r#"],"overrides":["#)?;
     for (index, constant) in source.module.overrides.iter().enumerate() {
         write_override(output, source, index, constant)?;
     }
-    output.push_str("],\"entryPoints\":[")?;
+    output.push_str(r#"],"entryPoints":["#)?;
     for (index, entry_point) in source.module.entry_points.iter().enumerate() {
         write_entry_point(output, source, index, entry_point)?;
     }
-    output.push_str("],\"errors\":[")?;
+    output.push_str(r#"],"errors":["#)?;
     write_messages(output, source.lines, source.messages, Severity::Error)?;
-    output.push_str("],\"findings\":[")?;
+    output.push_str(r#"],"findings":["#)?;
     write_messages(output, source.lines, source.messages, Severity::Finding)?;
     output.push_str("]}\n")
 }
@@ -70,18 +48,13 @@ fn write_named(
     index: usize,
     name: &str,
     at: usize,
-) -> Result<(), AllocError> {
-    let pieces = [
-        Piece::Text(separator(index)),
-        Piece::Text("{\"name\":\""),
-        Piece::Escaped(name),
-        Piece::Text("\""),
-        Piece::At(source.lines.place(at)),
-    ];
-    write_all(output, &pieces)
+) -> Written {
+    let (comma, name) = (separator(index), Escaped(name));
+    let place = Fields(source.lines.place(at));
+    write!(output, r#"{comma}{{"name":"{name}",{place}"#)
 }
 
-fn write_structs(output: &mut String, source: Source) -> Result<(), AllocError> {
+fn write_structs(output: &mut String, source: Source) -> Written {
     let mut written = 0usize;
     for index in &source.module.in_text {
         if let Some(structure) = source.chosen(*index) {
@@ -94,15 +67,11 @@ fn write_structs(output: &mut String, source: Source) -> Result<(), AllocError> 
 }
 
 /// Writes the rest of a struct after its place, with its members.
-fn write_struct(output: &mut String, source: Source, structure: &Struct) -> Result<(), AllocError> {
-    let pieces = [
-        Piece::Field("size", Some(structure.size)),
-        Piece::Field("align", Some(structure.align)),
-        Piece::Text(",\"runtimeSized\":"),
-        Piece::Text(truth(structure.is_runtime_sized)),
-        Piece::Text(",\"members\":["),
-    ];
-    write_all(output, &pieces)?;
+fn write_struct(output: &mut String, source: Source, structure: &Struct) -> Written {
+    let (size, align) = (structure.size, structure.align);
+    let is_runtime_sized = structure.is_runtime_sized;
+    write!(output, r#","size":{size},"align":{align}"#)?;
+    write!(output, r#","runtimeSized":{is_runtime_sized},"members":["#)?;
     for (index, member) in structure.members.iter().enumerate() {
         write_named(output, source, index, member.name, member.place)?;
         write_member(output, source, member, end_of(structure, index))?;
@@ -110,40 +79,24 @@ fn write_struct(output: &mut String, source: Source, structure: &Struct) -> Resu
     output.push_str("]}")
 }
 
-fn truth(is_true: bool) -> &'static str {
-    if is_true { "true" } else { "false" }
-}
-
 /// Writes the rest of a member after its place, with the padding up to an offset.
-fn write_member(
-    output: &mut String,
-    source: Source,
-    member: &Member,
-    end: u32,
-) -> Result<(), AllocError> {
-    let module = source.module;
+fn write_member(output: &mut String, source: Source, member: &Member, end: u32) -> Written {
     write_type(output, source, member.ty)?;
+    let (offset, size, align) = (member.offset, member.size, member.align);
+    let stride = OrNull(stride_of(source.module, member.ty));
     let gap = padding(member, end).unwrap_or(0);
-    let numbers = [
-        Piece::Field("offset", Some(member.offset)),
-        Piece::Field("size", Some(member.size)),
-        Piece::Field("align", Some(member.align)),
-        Piece::Field("stride", stride_of(module, member.ty)),
-        Piece::Field("padding", Some(gap)),
-        Piece::Text("}"),
-    ];
-    write_all(output, &numbers)
+    write!(
+        output,
+        r#","offset":{offset},"size":{size},"align":{align}"#
+    )?;
+    write!(output, r#","stride":{stride},"padding":{gap}}}"#)
 }
 
 /// The fields for a type: its spelling, and its tree.
-fn write_type(output: &mut String, source: Source, ty: MeasuredType) -> Result<(), AllocError> {
+fn write_type(output: &mut String, source: Source, ty: MeasuredType) -> Written {
     let spelling = type_text(source.alloc, source.module, ty)?;
-    let pieces = [
-        Piece::Text(",\"type\":\""),
-        Piece::Escaped(spelling.as_str()),
-        Piece::Text("\",\"typeTree\":"),
-    ];
-    write_all(output, &pieces)?;
+    let spelling = Escaped(spelling.as_str());
+    write!(output, r#","type":"{spelling}","typeTree":"#)?;
     write_tree(output, source.module, ty)
 }
 
@@ -153,34 +106,24 @@ fn write_variable(
     source: Source,
     index: usize,
     variable: &Variable,
-) -> Result<(), AllocError> {
-    let module = source.module;
+) -> Written {
     write_named(output, source, index, variable.name, variable.place)?;
     write_type(output, source, variable.ty)?;
-    let bound = [
-        Piece::Field("group", variable.group),
-        Piece::Field("binding", variable.binding),
-        Piece::Text(",\"space\":\""),
-        Piece::Text(variable.space.name_by(RuleSet::Standard)),
-    ];
-    write_all(output, &bound)?;
-    let access = variable.access;
-    write!(output, "\",\"access\":\"{access}\",\"resource\":")?;
+    let (group, binding) = (OrNull(variable.group), OrNull(variable.binding));
+    let (space, access) = (variable.space.name_by(RuleSet::Standard), variable.access);
+    write!(output, r#","group":{group},"binding":{binding}"#)?;
+    write!(
+        output,
+        r#","space":"{space}","access":"{access}","resource":"#
+    )?;
     write_resource(output, source, variable)?;
-    let size = [
-        Piece::Field("size", variable.ty.size),
-        Piece::Field("minBindingSize", min_binding_size(module, variable)),
-        Piece::Text("}"),
-    ];
-    write_all(output, &size)
+    let size = OrNull(variable.ty.size);
+    let smallest = OrNull(min_binding_size(source.module, variable));
+    write!(output, r#","size":{size},"minBindingSize":{smallest}}}"#)
 }
 
 /// Writes the resource of a variable: a buffer, or the kind that its type has.
-fn write_resource(
-    output: &mut String,
-    source: Source,
-    variable: &Variable,
-) -> Result<(), AllocError> {
+fn write_resource(output: &mut String, source: Source, variable: &Variable) -> Written {
     match variable.space {
         AddressSpace::Handle => write_tree(output, source.module, variable.ty),
         space => write_buffer(output, space, variable.access),
@@ -192,23 +135,14 @@ fn write_override(
     source: Source,
     index: usize,
     constant: &Override,
-) -> Result<(), AllocError> {
+) -> Written {
     write_named(output, source, index, constant.name, constant.place)?;
-    let (start, ty, end) = match constant.ty {
-        Some(scalar) => ("\"", scalar.name(), "\""),
-        None => ("null", "", ""),
-    };
-    let pieces = [
-        Piece::Field("id", constant.id),
-        Piece::Text(",\"type\":"),
-        Piece::Text(start),
-        Piece::Text(ty),
-        Piece::Text(end),
-        Piece::Text(",\"hasDefault\":"),
-        Piece::Text(truth(constant.has_default)),
-        Piece::Text("}"),
-    ];
-    write_all(output, &pieces)
+    let (id, has_default) = (OrNull(constant.id), constant.has_default);
+    match constant.ty {
+        Some(scalar) => write!(output, r#","id":{id},"type":"{scalar}""#)?,
+        None => write!(output, r#","id":{id},"type":null"#)?,
+    }
+    write!(output, r#","hasDefault":{has_default}}}"#)
 }
 
 /// Writes an entry point. Its workgroup is `null` if it has none, and an extent of it is `null` if an override gives
@@ -218,14 +152,10 @@ fn write_entry_point(
     source: Source,
     index: usize,
     entry_point: &EntryPoint,
-) -> Result<(), AllocError> {
+) -> Written {
     write_named(output, source, index, entry_point.name, entry_point.place)?;
-    let stage = [
-        Piece::Text(",\"stage\":\""),
-        Piece::Text(entry_point.stage.name()),
-        Piece::Text("\",\"workgroupSize\":"),
-    ];
-    write_all(output, &stage)?;
+    let stage = entry_point.stage.name();
+    write!(output, r#","stage":"{stage}","workgroupSize":"#)?;
     match entry_point.workgroup_size {
         Some(extents) => write_extents(output, extents)?,
         None => output.push_str("null")?,
@@ -233,7 +163,7 @@ fn write_entry_point(
     output.push_str("}")
 }
 
-fn write_extents(output: &mut String, extents: [WorkgroupExtent; 3]) -> Result<(), AllocError> {
+fn write_extents(output: &mut String, extents: [WorkgroupExtent; 3]) -> Written {
     for (index, extent) in extents.iter().enumerate() {
         output.push_str(if index == 0 { "[" } else { "," })?;
         match extent {
@@ -250,7 +180,7 @@ pub fn write_messages(
     lines: &Lines,
     messages: &[Message],
     severity: Severity,
-) -> Result<(), AllocError> {
+) -> Written {
     let mut written = 0usize;
     for message in messages {
         if message.severity == severity {
@@ -261,50 +191,24 @@ pub fn write_messages(
     Ok(())
 }
 
-fn write_message(
-    output: &mut String,
-    lines: &Lines,
-    index: usize,
-    message: &Message,
-) -> Result<(), AllocError> {
-    let pieces = [
-        Piece::Text(separator(index)),
-        Piece::Text("{\"kind\":\""),
-        Piece::Text(message.kind.as_str()),
-        Piece::Text("\","),
-    ];
-    write_all(output, &pieces)?;
-    write_placed(
-        output,
-        lines,
-        message.at,
-        message.end,
+fn write_message(output: &mut String, lines: &Lines, index: usize, message: &Message) -> Written {
+    let (comma, kind, text) = (
+        separator(index),
+        message.kind.as_str(),
         message.text.as_str(),
-    )?;
+    );
+    write!(output, r#"{comma}{{"kind":"{kind}","#)?;
+    write_placed(output, lines, message.at, message.end, text)?;
     for (index, note) in message.notes.iter().enumerate() {
-        let start = if index == 0 { ",\"notes\":[{" } else { "},{" };
-        output.push_str(start)?;
+        output.push_str(if index == 0 { r#","notes":[{"# } else { "},{" })?;
         write_placed(output, lines, note.at, note.end, note.text.as_str())?;
     }
-    let end = if message.notes.is_empty() { "}" } else { "}]}" };
-    output.push_str(end)
+    output.push_str(if message.notes.is_empty() { "}" } else { "}]}" })
 }
 
 /// Writes the fields for a place and a message.
-fn write_placed(
-    output: &mut String,
-    lines: &Lines,
-    at: usize,
-    end: usize,
-    message: &str,
-) -> Result<(), AllocError> {
-    let pieces = [
-        Piece::Place(lines.place(at)),
-        Piece::Text(",\"end\":{"),
-        Piece::Place(lines.place(end)),
-        Piece::Text("},\"message\":\""),
-        Piece::Escaped(message),
-        Piece::Text("\""),
-    ];
-    write_all(output, &pieces)
+fn write_placed(output: &mut String, lines: &Lines, at: usize, end: usize, text: &str) -> Written {
+    let (start, end) = (Fields(lines.place(at)), Fields(lines.place(end)));
+    let text = Escaped(text);
+    write!(output, r#"{start},"end":{{{end}}},"message":"{text}""#)
 }

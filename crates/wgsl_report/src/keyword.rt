@@ -1,8 +1,6 @@
 // Which keyword a misspelled word may have meant.
 
-use std::alloc::{AllocError, Global};
-use wgsl_reader::kind::Kind;
-use wgsl_reader::module::Misread;
+use crate::prelude::*;
 use wgsl_reader::read::read;
 use wgsl_reader::token::Token;
 use wgsl_reader::word::WORDS;

@@ -1,18 +1,13 @@
 // Types in layers: arrays, matrices and vectors, from the outside to a scalar or a struct.
 
-use crate::told::{data_size, stride_of};
-use std::alloc::{AllocError, Global};
-use wgsl_source::measured::{MeasuredType, TypeKind};
-use wgsl_source::module::Module;
-use wgsl_syntax::scalar::Scalar;
+use crate::prelude::*;
 
 /// The type inside an array, a binding array or a pointer.
 pub fn inside(module: &Module, ty: MeasuredType) -> Option<MeasuredType> {
     match ty.kind {
-        TypeKind::Array(index, _) | TypeKind::BindingArray(index, _) => {
-            module.elements.get(index).copied()
-        }
-        TypeKind::Pointer(_, index, _) => module.elements.get(index).copied(),
+        TypeKind::Array(index, _)
+        | TypeKind::BindingArray(index, _)
+        | TypeKind::Pointer(_, index, _) => module.elements.get(index).copied(),
         _ => None,
     }
 }

@@ -11,6 +11,7 @@ pub mod layers;
 pub mod lines;
 pub mod message;
 mod place;
+mod prelude;
 pub mod report;
 mod resource;
 pub mod rules;

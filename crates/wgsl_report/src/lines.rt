@@ -1,6 +1,6 @@
 // Lines and columns of a text.
 
-use std::alloc::{AllocError, Global};
+use crate::prelude::*;
 
 /// Where the lines of a text begin and end (WGSL, "Blankspace and Line Breaks").
 #[derive(Drop)]

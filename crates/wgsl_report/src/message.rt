@@ -1,17 +1,10 @@
 // What is wrong with a text: its errors, and its findings.
 
-use crate::finding::Finding;
 use crate::keyword::meant_at;
-use crate::write::{Piece, write_all};
-use std::alloc::{AllocError, Global};
+use crate::prelude::*;
 use std::fmt::Debug;
 use wgsl_reader::expected::{expected, may_stand_behind};
-use wgsl_reader::kind::Kind;
-use wgsl_reader::module::Misread;
-use wgsl_source::fault::{Cause, Fault};
 use wgsl_source::meant::{Declared, meant};
-use wgsl_source::module::Module;
-use wgsl_source::text::Text;
 use wgsl_spelling::fault::Cause as SpellingCause;
 
 /// How severe a message is.
@@ -143,7 +136,7 @@ pub fn write_misread<'t>(
     text: Text<'t>,
     misread: Misread,
     declared: Option<&Declared<'t>>,
-) -> Result<(), AllocError> {
+) -> Written {
     let front = text.tokens.get(misread.from..misread.at).unwrap_or(&[]);
     let token = text.token(misread.at);
     let fault = Fault {
@@ -171,22 +164,14 @@ pub fn write_misread<'t>(
 }
 
 /// Writes the keyword that a word of a misread declaration may have meant.
-fn write_keyword(
-    output: &mut String,
-    alloc: Global,
-    text: Text,
-    misread: Misread,
-) -> Result<(), AllocError> {
+fn write_keyword(output: &mut String, alloc: Global, text: Text, misread: Misread) -> Written {
     let Some((index, keyword)) = meant_at(alloc, misread, text.tokens, text.text)? else {
         return Ok(());
     };
-    write_all(
-        output,
-        &[Piece::Text("; did you mean `"), Piece::Text(keyword)],
-    )?;
+    write!(output, "; did you mean `{keyword}")?;
     if index != misread.at {
-        let word = text.word(text.token(index));
-        write_all(output, &[Piece::Text("` for `"), Piece::Visible(word)])?;
+        let word = Visible(text.word(text.token(index)));
+        write!(output, "` for `{word}")?;
     }
     output.push_str("`?")
 }
@@ -222,8 +207,8 @@ fn finding_message(alloc: Global, text: Text, finding: &Finding) -> Result<Messa
     Ok(Message {
         severity: Severity::Finding,
         kind: kind_of(alloc, &finding.trouble)?,
-        at: finding.at,
-        end: text.end_of_token(finding.at),
+        at: finding.subject.at,
+        end: text.end_of_token(finding.subject.at),
         text: told,
         notes: Vec::new(alloc),
     })
@@ -266,13 +251,8 @@ fn write_found<'t>(
         (_, None) => ("", "", ""),
     };
     let (quoted, dots) = beginning(word);
-    let pieces = [
-        Piece::Text(start),
-        Piece::Visible(quoted),
-        Piece::Text(dots),
-        Piece::Text(end),
-    ];
-    write_all(output, &pieces)?;
+    let quoted = Visible(quoted);
+    write!(output, "{start}{quoted}{dots}{end}")?;
     Ok(word)
 }
 
@@ -282,20 +262,13 @@ fn write_meant<'t>(
     word: &'t str,
     cause: Cause,
     declared: Option<&Declared<'t>>,
-) -> Result<(), AllocError> {
+) -> Written {
     let name = match declared {
         Some(declared) => meant(cause, word, declared),
         None => None,
     };
     match name {
-        Some(name) if name != word => write_all(
-            output,
-            &[
-                Piece::Text("; did you mean `"),
-                Piece::Text(name),
-                Piece::Text("`?"),
-            ],
-        ),
+        Some(name) if name != word => write!(output, "; did you mean `{name}`?"),
         _ => Ok(()),
     }
 }

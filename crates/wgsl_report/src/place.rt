@@ -1,7 +1,6 @@
 // Address spaces, as the rules for variables tell them apart.
 
-use wgsl_source::variable::Variable;
-use wgsl_syntax::address::{AccessMode, AddressSpace};
+use crate::prelude::*;
 
 /// The address space of a variable. `storage` counts as two: read-only and writable.
 #[derive(Clone, Copy, PartialEq, Eq)]

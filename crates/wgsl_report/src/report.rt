@@ -1,23 +1,13 @@
 // Reports on texts.
 
 use crate::choice::{Choice, choose};
-use crate::forms::c::write_c;
 use crate::forms::numpy::write_numpy;
-use crate::forms::rust::write_rust;
+use crate::forms::structs::write_structs;
 use crate::forms::typescript::write_typescript;
 use crate::json::write_json;
-use crate::lines::Lines;
-use crate::message::{Message, messages_of};
+use crate::prelude::*;
 use crate::rules::findings_of;
-use crate::shown::{Style, write_messages};
-use crate::source::Source;
 use crate::table::write_tables;
-use std::alloc::{AllocError, Global};
-use std::str::from_utf8;
-use wgsl_reader::module::Misread;
-use wgsl_source::fault::{Cause, Fault};
-use wgsl_source::module::{Module, read_module};
-use wgsl_source::text::{Text, tokens};
 
 /// How a report is written.
 #[derive(Clone, Copy, PartialEq, Eq)]
@@ -90,8 +80,7 @@ pub fn report_on(
             };
             let grammar = wgsl_reader::module::read_module(alloc, &tokens)?;
             let module = read_module(alloc, text, &grammar)?;
-            let messages = messages_on(alloc, text, &grammar.misread, &module)?;
-            report_module(alloc, options, &lines, &module, &messages)
+            report_module(alloc, options, &lines, text, &grammar.misread, &module)
         }
         Err(error) => {
             let fault = Fault {
@@ -103,29 +92,21 @@ pub fn report_on(
                 text: "",
                 tokens: &[],
             };
-            let messages = messages_on(alloc, nothing, &[], &module)?;
-            report_module(alloc, options, &lines, &module, &messages)
+            report_module(alloc, options, &lines, nothing, &[], &module)
         }
     }
 }
 
-fn messages_on<'t>(
-    alloc: Global,
-    text: Text<'t>,
-    misread: &[Misread],
-    module: &Module<'t>,
-) -> Result<Vec<Message>, AllocError> {
-    let findings = findings_of(alloc, &*module)?;
-    messages_of(alloc, text, misread, module, &findings)
-}
-
-fn report_module(
+fn report_module<'t>(
     alloc: Global,
     options: ReportOptions,
     lines: &Lines,
-    module: &Module,
-    messages: &[Message],
+    text: Text<'t>,
+    misread: &[Misread],
+    module: &Module<'t>,
 ) -> Result<Report, AllocError> {
+    let findings = findings_of(alloc, &*module)?;
+    let messages = messages_of(alloc, text, misread, module, &findings)?;
     let Choice {
         is_chosen,
         is_found,
@@ -135,7 +116,7 @@ fn report_module(
         file: options.file,
         lines,
         module,
-        messages,
+        messages: &messages,
         has_all: options.only.is_empty(),
         is_chosen: &is_chosen,
     };
@@ -150,17 +131,13 @@ fn report_module(
     Ok(report)
 }
 
-fn write_report(
-    report: &mut Report,
-    source: Source,
-    options: ReportOptions,
-) -> Result<(), AllocError> {
+fn write_report(report: &mut Report, source: Source, options: ReportOptions) -> Written {
     let output = &mut report.text;
     match options.format {
         Format::Tables => write_tables(output, source, options.style),
         Format::Json => write_json(output, source),
-        Format::C => write_c(output, source),
-        Format::Rust => write_rust(output, source),
+        Format::C => write_structs(output, source, Language::C),
+        Format::Rust => write_structs(output, source, Language::Rust),
         Format::Numpy => write_numpy(output, source),
         Format::TypeScript => write_typescript(output, source),
     }?;

@@ -1,49 +1,37 @@
 // What is bound to a variable, in the words of a WebGPU bind group layout.
 
-use crate::write::{Piece, write_all};
-use std::alloc::AllocError;
-use wgsl_syntax::address::{AccessMode, AddressSpace};
-use wgsl_syntax::rules::RuleSet;
-use wgsl_syntax::texture::{SampledType, SamplerType, TextureDimensions, TextureType};
+use crate::prelude::*;
 use wgsl_syntax::texture_name::TextureParameters;
 
 /// Writes what is bound to a variable of this address space whose type is no texture, sampler or the like.
-pub fn write_buffer(
-    output: &mut String,
-    space: AddressSpace,
-    access: AccessMode,
-) -> Result<(), AllocError> {
+pub fn write_buffer(output: &mut String, space: AddressSpace, access: AccessMode) -> Written {
     let kind = match (space, access) {
         (AddressSpace::Uniform, _) => "uniform",
         (AddressSpace::Storage, AccessMode::Read) => "read-only-storage",
         (AddressSpace::Storage, _) => "storage",
         _ => return output.push_str("null"),
     };
-    let pieces = [
-        Piece::Text("{\"kind\":\"buffer\",\"type\":\""),
-        Piece::Text(kind),
-        Piece::Text("\"}"),
-    ];
-    write_all(output, &pieces)
+    write!(output, r#"{{"kind":"buffer","type":"{kind}"}}"#)
 }
 
-pub fn write_sampler(output: &mut String, sampler: SamplerType) -> Result<(), AllocError> {
+pub fn write_sampler(output: &mut String, sampler: SamplerType) -> Written {
     output.push_str(match sampler {
-        SamplerType::Sampler => "{\"kind\":\"sampler\",\"type\":\"filtering\"}",
-        SamplerType::SamplerComparison => "{\"kind\":\"sampler\",\"type\":\"comparison\"}",
+        SamplerType::Sampler => r#"{"kind":"sampler","type":"filtering"}"#,
+        SamplerType::SamplerComparison => r#"{"kind":"sampler","type":"comparison"}"#,
     })
 }
 
-pub fn write_texture(output: &mut String, texture: TextureType) -> Result<(), AllocError> {
+pub fn write_texture(output: &mut String, texture: TextureType) -> Written {
     match (texture, texture.parameters()) {
-        (TextureType::External, _) => output.push_str("{\"kind\":\"externalTexture\"}"),
+        (TextureType::External, _) => output.push_str(r#"{"kind":"externalTexture"}"#),
         (_, TextureParameters::Storage(format, access)) => {
-            output.push_str("{\"kind\":\"storageTexture\",\"format\":\"")?;
-            output.push_str(format.name_by(RuleSet::Standard))?;
-            output.push_str("\",\"access\":\"")?;
-            output.push_str(access_name(access))?;
-            write_dimension(output, texture)?;
-            output.push_str("}")
+            let (format, access) = (format.name_by(RuleSet::Standard), access_name(access));
+            let dimension = view_dimension(texture);
+            write!(output, r#"{{"kind":"storageTexture","format":"{format}""#)?;
+            write!(
+                output,
+                r#","access":"{access}","viewDimension":"{dimension}"}}"#
+            )
         }
         (_, TextureParameters::Sampled(sampled)) => {
             write_sampled(output, texture, sample_type(sampled))
@@ -52,28 +40,13 @@ pub fn write_texture(output: &mut String, texture: TextureType) -> Result<(), Al
     }
 }
 
-fn write_sampled(
-    output: &mut String,
-    texture: TextureType,
-    sample_type: &str,
-) -> Result<(), AllocError> {
-    output.push_str("{\"kind\":\"texture\",\"sampleType\":\"")?;
-    output.push_str(sample_type)?;
-    write_dimension(output, texture)?;
-    output.push_str(if texture.is_multisampled() {
-        ",\"multisampled\":true}"
-    } else {
-        ",\"multisampled\":false}"
-    })
-}
-
-fn write_dimension(output: &mut String, texture: TextureType) -> Result<(), AllocError> {
-    let pieces = [
-        Piece::Text("\",\"viewDimension\":\""),
-        Piece::Text(view_dimension(texture)),
-        Piece::Text("\""),
-    ];
-    write_all(output, &pieces)
+fn write_sampled(output: &mut String, texture: TextureType, sample_type: &str) -> Written {
+    let (dimension, multisampled) = (view_dimension(texture), texture.is_multisampled());
+    write!(output, r#"{{"kind":"texture","sampleType":"{sample_type}""#)?;
+    write!(
+        output,
+        r#","viewDimension":"{dimension}","multisampled":{multisampled}}}"#
+    )
 }
 
 fn view_dimension(texture: TextureType) -> &'static str {

@@ -6,18 +6,7 @@ ghost use Rattle.wgsl_report.specs.Extent.{extent_of};
 use crate::extent::{
     content_of, extent_of, innermost, is_runtime_sized, position_of, shape_of, stride_too_close,
 };
-use crate::finding::{Finding, Trouble};
-use crate::place::Place;
-use crate::spaces::content::{Content, may_be_innermost, may_hold};
-use crate::spaces::layout::{
-    Position, Rule, broken_rule, is_align_attribute, is_lifted, required_align, up_to_16,
-};
-use std::alloc::{AllocError, Global};
-use wgsl_source::measured::{MeasuredType, TypeKind};
-use wgsl_source::module::Module;
-use wgsl_source::structure::{Member, Struct};
-use wgsl_source::variable::Variable;
-use wgsl_syntax::address::AddressSpace;
+use crate::prelude::*;
 
 /// The state of checking the variables of a module.
 #[derive(Drop)]
@@ -27,34 +16,12 @@ struct Checker<'a> {
     findings: Vec<Finding<'a>>,
 }
 
-/// A variable or a member that is checked.
-#[derive(Clone, Copy)]
-struct Subject<'a> {
-    at: usize,
-    of: Option<&'a str>,
-    name: &'a str,
-    place: Option<Place>,
-}
-
-impl<'a> Subject<'a> {
-    fn of_member(of: &Struct<'a>, member: &Member<'a>, place: Option<Place>) -> Subject<'a> {
-        Subject {
-            at: member.place,
-            of: Some(of.name),
-            name: member.name,
-            place,
-        }
-    }
-
-    fn finding(self, trouble: Trouble, is_lifted: bool) -> Finding<'a> {
-        Finding {
-            at: self.at,
-            of: self.of,
-            name: self.name,
-            place: self.place,
-            trouble,
-            is_lifted,
-        }
+fn member_of<'a>(of: &Struct<'a>, member: &Member<'a>, place: Option<Place>) -> Subject<'a> {
+    Subject {
+        at: member.place,
+        of: Some(of.name),
+        name: member.name,
+        place,
     }
 }
 
@@ -75,16 +42,16 @@ pub fn findings_of<'a>(
         checker.check_place(place)?;
     }
     let Checker { mut findings, .. } = checker;
-    findings.sort_unstable_by_key(|finding| finding.at);
+    findings.sort_unstable_by_key(|finding| finding.subject.at);
     Ok(findings)
 }
 
 impl<'a> Checker<'a> {
     /// Checks the attribute `align` of each member. naga and Tint require in every struct that it suits the member's
     /// type.
-    fn check_attributes(&mut self, structure: &Struct<'a>) -> Result<(), AllocError> {
+    fn check_attributes(&mut self, structure: &Struct<'a>) -> Written {
         for member in &structure.members {
-            let subject = Subject::of_member(structure, member, None);
+            let subject = member_of(structure, member, None);
             let align = member.ty.align.unwrap_or(1);
             if !suits_type(member) {
                 self.find(subject, Trouble::Align { align })?;
@@ -94,7 +61,7 @@ impl<'a> Checker<'a> {
     }
 
     /// Checks the variables of a place, and each struct in their types once.
-    fn check_place(&mut self, place: Place) -> Result<(), AllocError> {
+    fn check_place(&mut self, place: Place) -> Written {
         let module = self.module;
         let mut reached = vec![in self.alloc; false; module.structs.len()]?;
         for variable in &module.variables {
@@ -123,7 +90,7 @@ impl<'a> Checker<'a> {
         }
     }
 
-    fn check_variable(&mut self, place: Place, variable: &Variable<'a>) -> Result<(), AllocError> {
+    fn check_variable(&mut self, place: Place, variable: &Variable<'a>) -> Written {
         let subject = Subject {
             at: variable.place,
             of: None,
@@ -150,22 +117,26 @@ impl<'a> Checker<'a> {
         }
     }
 
-    fn find(&mut self, subject: Subject<'a>, trouble: Trouble) -> Result<(), AllocError> {
-        Ok(self.findings.push(subject.finding(trouble, false))?)
+    fn find(&mut self, subject: Subject<'a>, trouble: Trouble) -> Written {
+        self.find_where(subject, trouble, false)
     }
 
-    fn check_struct(
-        &mut self,
-        index: usize,
-        place: Place,
-        reached: &mut [bool],
-    ) -> Result<(), AllocError> {
+    fn find_where(&mut self, subject: Subject<'a>, trouble: Trouble, is_lifted: bool) -> Written {
+        let finding = Finding {
+            subject,
+            trouble,
+            is_lifted,
+        };
+        Ok(self.findings.push(finding)?)
+    }
+
+    fn check_struct(&mut self, index: usize, place: Place, reached: &mut [bool]) -> Written {
         let module = self.module;
         let Some(structure) = module.structs.get(index) else {
             return Ok(());
         };
         for (index, member) in structure.members.iter().enumerate() {
-            let subject = Subject::of_member(structure, member, Some(place));
+            let subject = member_of(structure, member, Some(place));
             let next = structure.members.get(index.saturating_add(1));
             self.check_member(subject, place, member, next.map(|next| next.offset))?;
             self.check_content(subject, place, &member.ty)?;
@@ -181,7 +152,7 @@ impl<'a> Checker<'a> {
         place: Place,
         member: &Member<'a>,
         next: Option<u32>,
-    ) -> Result<(), AllocError> {
+    ) -> Written {
         let position = position_of(member, next);
         let space = self.rules(place);
         let Some(rule) = broken_rule(space, position) else {
@@ -191,8 +162,7 @@ impl<'a> Checker<'a> {
             return Ok(());
         }
         let is_lifted = space == AddressSpace::Uniform && is_lifted(rule, position);
-        let trouble = trouble_of(rule, space, position);
-        Ok(self.findings.push(subject.finding(trouble, is_lifted))?)
+        self.find_where(subject, trouble_of(rule, space, position), is_lifted)
     }
 
     /// The address space whose layout rules hold for a place.
@@ -204,19 +174,13 @@ impl<'a> Checker<'a> {
     }
 
     /// Checks whether an array may stand there, the strides of arrays, and the innermost type.
-    fn check_content(
-        &mut self,
-        subject: Subject<'a>,
-        place: Place,
-        ty: &MeasuredType,
-    ) -> Result<(), AllocError> {
+    fn check_content(&mut self, subject: Subject<'a>, place: Place, ty: &MeasuredType) -> Written {
         let elements = &self.module.elements;
         if !may_hold(place.space(), shape_of(ty.kind)) {
             self.find(subject, Trouble::Array)?;
         }
         if let Some(stride) = stride_too_close(self.rules(place), elements, ty) {
-            let trouble = Trouble::Stride { stride };
-            self.findings.push(subject.finding(trouble, true))?;
+            self.find_where(subject, Trouble::Stride { stride }, true)?;
         }
         let Some(inner) = innermost(elements, ty) else {
             return Ok(());

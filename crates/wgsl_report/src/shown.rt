@@ -1,12 +1,7 @@
 // Messages for people, with the line that each is about.
 
-use crate::lines::{Lines, Place};
-use crate::message::{Message, Severity};
-use crate::source::Source;
-use crate::write::{Piece, write_all};
-use std::alloc::{AllocError, Global};
-use std::collections::BTreeMap;
-use std::str::from_utf8;
+use crate::lines::Place;
+use crate::prelude::*;
 
 /// How messages for people look.
 #[derive(Clone, Copy, PartialEq, Eq)]
@@ -43,14 +38,14 @@ const RESET: &str = "\x1b[0m";
 const LONGEST: usize = 200;
 
 /// Writes the messages on a text, and which structs are left out.
-pub fn write_messages(output: &mut String, source: Source, style: Style) -> Result<(), AllocError> {
+pub fn write_messages(output: &mut String, source: Source, style: Style) -> Written {
     write_each(output, source.file, source.lines, source.messages, style)?;
     for (index, name) in once(source.alloc, &source.module.left_out)?
         .iter()
         .enumerate()
     {
         let start = if index == 0 { "left out: " } else { ", " };
-        write_all(output, &[Piece::Text(start), Piece::Text(*name)])?;
+        write!(output, "{start}{name}")?;
     }
     output.push_str(if source.module.left_out.is_empty() {
         ""
@@ -78,7 +73,7 @@ pub fn write_each(
     lines: &Lines,
     messages: &[Message],
     style: Style,
-) -> Result<(), AllocError> {
+) -> Written {
     for message in messages {
         let place = lines.place(message.at);
         let (severity, text) = (message.severity, message.text.as_str());
@@ -104,7 +99,7 @@ fn write_message(
     severity: Severity,
     text: &str,
     style: Style,
-) -> Result<(), AllocError> {
+) -> Written {
     let color = match severity {
         Severity::Error => RED,
         Severity::Finding => YELLOW,
@@ -120,12 +115,7 @@ fn write_message(
 }
 
 /// The line of a place, and a caret under it.
-fn write_line(
-    output: &mut String,
-    lines: &Lines,
-    place: Place,
-    style: Style,
-) -> Result<(), AllocError> {
+fn write_line(output: &mut String, lines: &Lines, place: Place, style: Style) -> Written {
     let line = lines.line(place.line);
     let (Ok(line), true) = (from_utf8(line), line.len() <= LONGEST) else {
         return Ok(());
@@ -141,13 +131,8 @@ fn write_line(
     for letter in before.chars() {
         output.push(if letter == '\t' { letter } else { ' ' })?;
     }
-    let pieces = [
-        Piece::Text(style.color(GREEN)),
-        Piece::Text("^"),
-        Piece::Text(style.color(RESET)),
-        Piece::Text("\n"),
-    ];
-    write_all(output, &pieces)
+    let (green, reset) = (style.color(GREEN), style.color(RESET));
+    write!(output, "{green}^{reset}\n")
 }
 
 /// How a letter of a line is shown: no control character but the tab reaches a terminal.

@@ -1,10 +1,6 @@
 // A text whose module is read, and which of its structs to report on.
 
-use crate::lines::Lines;
-use crate::message::Message;
-use std::alloc::Global;
-use wgsl_source::module::Module;
-use wgsl_source::structure::Struct;
+use crate::prelude::*;
 
 /// A text whose module is read, and which of its structs to report on.
 #[derive(Clone, Copy)]

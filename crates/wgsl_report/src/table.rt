@@ -1,18 +1,9 @@
 // Layouts and bindings as tables, for people.
 
-use crate::place::Place;
-use crate::shown::{Style, write_messages};
-use crate::source::Source;
-use crate::told::{end_of, min_binding_size, padding, stride_of};
-use crate::type_text::type_text;
-use crate::write::{Piece, write_all};
-use std::alloc::AllocError;
-use wgsl_source::measured::MeasuredType;
-use wgsl_source::structure::{Member, Struct};
-use wgsl_source::variable::Variable;
+use crate::prelude::*;
 
 /// Writes the chosen structs; the variables, unless structs are asked about by name; and what is wrong.
-pub fn write_tables(output: &mut String, source: Source, style: Style) -> Result<(), AllocError> {
+pub fn write_tables(output: &mut String, source: Source, style: Style) -> Written {
     for index in &source.module.in_text {
         if let Some(structure) = source.chosen(*index) {
             write_struct(output, source, structure)?;
@@ -27,7 +18,7 @@ pub fn write_tables(output: &mut String, source: Source, style: Style) -> Result
 }
 
 /// Writes a struct, with a line for each member and for each gap after one.
-fn write_struct(output: &mut String, source: Source, structure: &Struct) -> Result<(), AllocError> {
+fn write_struct(output: &mut String, source: Source, structure: &Struct) -> Written {
     write_head(output, structure)?;
     for (index, member) in structure.members.iter().enumerate() {
         write_member(output, source, member)?;
@@ -36,99 +27,60 @@ fn write_struct(output: &mut String, source: Source, structure: &Struct) -> Resu
     output.push_str("}\n")
 }
 
-fn write_head(output: &mut String, structure: &Struct) -> Result<(), AllocError> {
+fn write_head(output: &mut String, structure: &Struct) -> Written {
+    let (name, size, align) = (structure.name, structure.size, structure.align);
     let ending = if structure.is_runtime_sized {
         ", with one element at the end"
     } else {
         ""
     };
-    let pieces = [
-        Piece::Text("struct "),
-        Piece::Text(structure.name),
-        Piece::Text(" { // "),
-        Piece::Number(Some(structure.size)),
-        Piece::Text(" bytes, alignment "),
-        Piece::Number(Some(structure.align)),
-        Piece::Text(ending),
-        Piece::Text("\n  offset    size   align  stride\n"),
-    ];
-    write_all(output, &pieces)
+    write!(
+        output,
+        "struct {name} {{ // {size} bytes, alignment {align}{ending}\n"
+    )?;
+    output.push_str("  offset    size   align  stride\n")
 }
 
-fn write_member(output: &mut String, source: Source, member: &Member) -> Result<(), AllocError> {
-    let numbers = [
-        Piece::Column(Some(member.offset)),
-        Piece::Column(Some(member.size)),
-        Piece::Column(Some(member.align)),
-        Piece::Column(stride_of(source.module, member.ty)),
-        Piece::Text("  "),
-    ];
-    write_all(output, &numbers)?;
+fn write_member(output: &mut String, source: Source, member: &Member) -> Written {
+    let (offset, size, align) = (member.offset, member.size, member.align);
+    write!(output, "{offset:>8}{size:>8}{align:>8}")?;
+    match stride_of(source.module, member.ty) {
+        Some(stride) => write!(output, "{stride:>8}  ")?,
+        None => output.push_str("       -  ")?,
+    }
     write_typed(output, source, member.name, member.ty)?;
     output.push_str("\n")
 }
 
 /// A name and its type.
-fn write_typed(
-    output: &mut String,
-    source: Source,
-    name: &str,
-    ty: MeasuredType,
-) -> Result<(), AllocError> {
+fn write_typed(output: &mut String, source: Source, name: &str, ty: MeasuredType) -> Written {
     let spelling = type_text(source.alloc, source.module, ty)?;
-    let pieces = [
-        Piece::Text(name),
-        Piece::Text(": "),
-        Piece::Text(spelling.as_str()),
-    ];
-    write_all(output, &pieces)
+    write!(output, "{name}: {spelling}")
 }
 
 /// Writes the gap after a member.
-fn write_gap(output: &mut String, member: &Member, next: u32) -> Result<(), AllocError> {
+fn write_gap(output: &mut String, member: &Member, next: u32) -> Written {
     let Some(gap) = padding(member, next) else {
         return Ok(());
     };
-    let pieces = [
-        Piece::Column(next.checked_sub(gap)),
-        Piece::Column(Some(gap)),
-        Piece::Text("                  // -- implicit, "),
-        Piece::Number(Some(gap)),
-        Piece::Text(" bytes\n"),
-    ];
-    write_all(output, &pieces)
+    let start = next.saturating_sub(gap);
+    write!(output, "{start:>8}{gap:>8}                  ")?;
+    write!(output, "// -- implicit, {gap} bytes\n")
 }
 
 /// Writes a variable, with its minimum binding size.
-fn write_variable(
-    output: &mut String,
-    source: Source,
-    variable: &Variable,
-) -> Result<(), AllocError> {
-    let (open, space, close) = match Place::of(variable) {
-        Place::Handle => ("", "", ""),
-        place => ("<", place.text(), ">"),
-    };
-    let smallest = min_binding_size(source.module, variable);
-    let (start, end) = match smallest {
-        Some(_) => ("; // smallest binding: ", " bytes\n"),
-        None => (";", "\n"),
-    };
-    let front = [
-        Piece::Attribute("group", variable.group),
-        Piece::Attribute("binding", variable.binding),
-        Piece::Text("var"),
-        Piece::Text(open),
-        Piece::Text(space),
-        Piece::Text(close),
-        Piece::Text(" "),
-    ];
-    write_all(output, &front)?;
+fn write_variable(output: &mut String, source: Source, variable: &Variable) -> Written {
+    let group = IfKnown("@group(", variable.group, ") ");
+    let binding = IfKnown("@binding(", variable.binding, ") ");
+    match Place::of(variable) {
+        Place::Handle => write!(output, "{group}{binding}var ")?,
+        place => {
+            let space = place.text();
+            write!(output, "{group}{binding}var<{space}> ")?
+        }
+    }
     write_typed(output, source, variable.name, variable.ty)?;
-    let behind = [
-        Piece::Text(start),
-        Piece::Number(smallest),
-        Piece::Text(end),
-    ];
-    write_all(output, &behind)
+    let smallest = min_binding_size(source.module, variable);
+    let smallest = IfKnown(" // smallest binding: ", smallest, " bytes");
+    write!(output, ";{smallest}\n")
 }

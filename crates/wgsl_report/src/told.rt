@@ -1,10 +1,6 @@
 // The numbers that reports have for members and variables.
 
-use wgsl_source::measured::{Count, MeasuredType, TypeKind};
-use wgsl_source::module::Module;
-use wgsl_source::structure::{Member, Struct};
-use wgsl_source::variable::Variable;
-use wgsl_syntax::address::AddressSpace;
+use crate::prelude::*;
 
 /// The stride of an array's elements or of a matrix's columns.
 pub fn stride_of(module: &Module, ty: MeasuredType) -> Option<u32> {

@@ -1,12 +1,7 @@
 // Types as WGSL spells them.
 
-use crate::layers::inside;
-use std::alloc::{AllocError, Global};
-use wgsl_source::measured::{Count, MeasuredType, TypeKind};
-use wgsl_source::module::Module;
+use crate::prelude::*;
 use wgsl_syntax::attribute::AccelerationStructureFlags;
-use wgsl_syntax::rules::RuleSet;
-use wgsl_syntax::texture::ShownTexture;
 
 /// The spelling of a type.
 pub fn type_text(alloc: Global, module: &Module, ty: MeasuredType) -> Result<String, AllocError> {
@@ -28,7 +23,7 @@ pub fn type_text(alloc: Global, module: &Module, ty: MeasuredType) -> Result<Str
 }
 
 /// Writes the spelling of a type around another, up to the inner type.
-fn write_start(text: &mut String, kind: TypeKind) -> Result<(), AllocError> {
+fn write_start(text: &mut String, kind: TypeKind) -> Written {
     match kind {
         TypeKind::BindingArray(_, _) => text.push_str("binding_array<"),
         TypeKind::Pointer(space, _, _) => {
@@ -40,7 +35,7 @@ fn write_start(text: &mut String, kind: TypeKind) -> Result<(), AllocError> {
 }
 
 /// Writes the spelling of a type around another, after the inner type.
-fn write_end(text: &mut String, kind: TypeKind) -> Result<(), AllocError> {
+fn write_end(text: &mut String, kind: TypeKind) -> Written {
     match kind {
         TypeKind::Array(_, Count::Known(count)) | TypeKind::BindingArray(_, Count::Known(count)) =>
             { write!(text, ", {count}>") }
@@ -53,7 +48,7 @@ fn write_end(text: &mut String, kind: TypeKind) -> Result<(), AllocError> {
 }
 
 /// Writes a type that contains no array and no pointer.
-fn write_leaf(text: &mut String, module: &Module, kind: TypeKind) -> Result<(), AllocError> {
+fn write_leaf(text: &mut String, module: &Module, kind: TypeKind) -> Written {
     match kind {
         TypeKind::Scalar(scalar) => text.push_str(scalar.name()),
         TypeKind::Vector(count, scalar) => write!(text, "vec{count}<{scalar}>"),
@@ -83,7 +78,7 @@ fn write_flagged(
     text: &mut String,
     name: &str,
     flag: Option<AccelerationStructureFlags>,
-) -> Result<(), AllocError> {
+) -> Written {
     text.push_str(name)?;
     match flag {
         Some(flag) => write!(text, "<{flag}>"),

@@ -1,91 +1,88 @@
-// Pieces of a text, written one after another.
+// How reports write what isn't a plain text or number.
 
 use crate::lines::Place;
-use std::alloc::AllocError;
+use crate::prelude::*;
+use std::fmt;
+use std::fmt::Write;
 
-/// A piece of a text.
+/// What writing returns: it fails only if memory runs out.
+pub type Written = Result<(), AllocError>;
+
+/// The inside of a JSON string.
 #[derive(Clone, Copy)]
-pub enum Piece<'a> {
-    Text(&'a str),
-    /// The inside of a JSON string.
-    Escaped(&'a str),
-    /// A text whose control characters are written as blanks.
-    Visible(&'a str),
-    Count(usize),
-    /// A number, if there is one.
-    Number(Option<u32>),
-    /// A number, or `-`, in a column of a table.
-    Column(Option<u32>),
-    /// A further field of JSON: a number, or `null`.
-    Field(&'a str, Option<u32>),
-    /// The further fields of JSON for a place.
-    At(Place),
-    /// The fields of JSON for a place.
-    Place(Place),
-    /// A number, if there is one, as an attribute of a variable.
-    Attribute(&'a str, Option<u32>),
-}
+pub struct Escaped<'a>(pub &'a str);
 
-/// Writes pieces.
-pub fn write_all(output: &mut String, pieces: &[Piece]) -> Result<(), AllocError> {
-    for piece in pieces {
-        write_piece(output, *piece)?;
-    }
-    Ok(())
-}
+/// A text whose control characters are written as blanks.
+#[derive(Clone, Copy)]
+pub struct Visible<'a>(pub &'a str);
 
-fn write_piece(output: &mut String, piece: Piece) -> Result<(), AllocError> {
-    match piece {
-        Piece::Text(text) => output.push_str(text),
-        Piece::Escaped(text) => write_escaped(output, text),
-        Piece::Visible(text) => write_visible(output, text),
-        Piece::Count(count) => write!(output, "{count}"),
-        Piece::Number(Some(number)) => write!(output, "{number}"),
-        Piece::Number(None) | Piece::Attribute(_, None) => Ok(()),
-        Piece::Column(Some(number)) => write!(output, "{number:>8}"),
-        Piece::Column(None) => output.push_str("       -"),
-        Piece::Field(name, Some(number)) => write!(output, ",\"{name}\":{number}"),
-        Piece::Field(name, None) => write!(output, ",\"{name}\":null"),
-        Piece::At(place) => {
-            output.push_str(",")?;
-            write_fields(output, place)
+/// The fields of JSON for a place.
+#[derive(Clone, Copy)]
+pub struct Fields(pub Place);
+
+/// A number, or `null` in JSON.
+#[derive(Clone, Copy)]
+pub struct OrNull(pub Option<u32>);
+
+/// A number between two texts, or nothing.
+#[derive(Clone, Copy)]
+pub struct IfKnown<'a>(pub &'a str, pub Option<u32>, pub &'a str);
+
+impl fmt::Display for Escaped<'_> {
+    fn fmt<W: Write>(&self, f: &mut fmt::Formatter<W>) -> fmt::Result {
+        for letter in self.0.chars() {
+            match letter {
+                '"' => f.write_str("\\\"")?,
+                '\\' => f.write_str("\\\\")?,
+                '\0'..='\u{1f}' => {
+                    let code = u32::from(letter);
+                    write!(f, "\\u{code:04x}")?
+                }
+                _ => write!(f, "{letter}")?,
+            }
         }
-        Piece::Place(place) => write_fields(output, place),
-        Piece::Attribute(name, Some(number)) => write!(output, "@{name}({number}) "),
+        Ok(())
     }
 }
 
-fn write_fields(output: &mut String, place: Place) -> Result<(), AllocError> {
-    let Place {
-        line,
-        column,
-        utf16_column,
-    } = place;
-    write!(
-        output,
-        "\"line\":{line},\"column\":{column},\"utf16Column\":{utf16_column}"
-    )
+impl fmt::Display for Visible<'_> {
+    fn fmt<W: Write>(&self, f: &mut fmt::Formatter<W>) -> fmt::Result {
+        for letter in self.0.chars() {
+            let shown = if letter.is_control() { ' ' } else { letter };
+            write!(f, "{shown}")?;
+        }
+        Ok(())
+    }
 }
 
-fn write_escaped(output: &mut String, text: &str) -> Result<(), AllocError> {
-    for letter in text.chars() {
-        match letter {
-            '"' => output.push_str("\\\"")?,
-            '\\' => output.push_str("\\\\")?,
-            '\0'..='\u{1f}' => write_code(output, u32::from(letter))?,
-            _ => output.push(letter)?,
+impl fmt::Display for Fields {
+    fn fmt<W: Write>(&self, f: &mut fmt::Formatter<W>) -> fmt::Result {
+        let Place {
+            line,
+            column,
+            utf16_column,
+        } = self.0;
+        write!(
+            f,
+            r#""line":{line},"column":{column},"utf16Column":{utf16_column}"#
+        )
+    }
+}
+
+impl fmt::Display for OrNull {
+    fn fmt<W: Write>(&self, f: &mut fmt::Formatter<W>) -> fmt::Result {
+        match self.0 {
+            Some(number) => write!(f, "{number}"),
+            None => f.write_str("null"),
         }
     }
-    Ok(())
 }
 
-fn write_code(output: &mut String, code: u32) -> Result<(), AllocError> {
-    write!(output, "\\u{code:04x}")
-}
-
-fn write_visible(output: &mut String, text: &str) -> Result<(), AllocError> {
-    for letter in text.chars() {
-        output.push(if letter.is_control() { ' ' } else { letter })?;
+impl fmt::Display for IfKnown<'_> {
+    fn fmt<W: Write>(&self, f: &mut fmt::Formatter<W>) -> fmt::Result {
+        match self.1 {
+            Some(number) => write!(f, "{}{number}{}", self.0, self.2),
+            None => Ok(()),
+        }
     }
-    Ok(())
 }

@@ -3,7 +3,7 @@ use Rattle.wgsl_requests.proofs.Shared.{◌≡◌, List, [], ◌∷◌, Option, 
 use Rattle.wgsl_requests.proofs.Shared.{AllocError, Bor, WgslType, Parameter, WgslOperand, view, «Type», operand_view, operands_view, Fail, Operand, loaded}
 use Rattle.wgsl_requests.proofs.Shared.{template_type, WithTemplate, written_view, ℕ, Bool, true, false, Vec, Global, MatchBool, Overload, is_template}
 use Rattle.wgsl_requests.proofs.Shared.{types_of, callee_view, given_type, note_listed, note_text, types_given, Mismatch, AreNotesWith, filter, flat_map, ⊤}
-use Rattle.wgsl_requests.proofs.Shared.{bytes_eq, false_from_ne_true, append-nil, a_binary, a_unary, texts_listed}
+use Rattle.wgsl_requests.proofs.Shared.{bytes_eq, false_from_ne_true, append-nil, texts_listed, ◌++◌, WgslCallee}
 use Rattle.wgsl_standard.specs.Answered.{Answers, IsRefused}
 use Rattle.wgsl_core.specs.declared.error.Fail.TheVariants.{Error}
 use Rattle.wgsl_standard.specs.declared.answer.NoOverload.{NoOverload}
@@ -12,11 +12,6 @@ use Rattle.wgsl_standard.specs.declared.callee.Callee.{Callee}
 use Rattle.wgsl_standard.specs.declared.explanation.Note.{Note}
 use Rattle.std.proofs.lemmas.Slice.Eq.{bytes_eq-Decides}
 use Rattle.wgsl_syntax.specs.Names.{Reads}
-use Rattle.wgsl_syntax.specs.Operator.{binary_operators, binary_text, unary_operators, unary_text}
-use Rattle.wgsl_syntax.specs.declared.operator.BinaryOperator.{BinaryOperator}
-use Rattle.wgsl_syntax.specs.declared.operator.UnaryOperator.{UnaryOperator}
-use Rattle.wgsl_standard.specs.Lines.{binary_operators_named, unary_operators_named}
-use Rattle.wgsl_standard.proofs.NumberedLines.{one_binary, one_unary}
 
 -- operands as they are written, and loaded
 pub same_operands : (xs : List Operand) → operands_view xs ≡ loaded (map written_view xs)
@@ -90,22 +85,18 @@ none_left : {A : Type 0} (text : A → List ℕ) (name : List ℕ) → ((x : A) 
 none_left text name none [] = refl
 none_left text name none (x ∷ xs) = rw (false_from_ne_true (bytes_eq name (text x)) (λ e. none x ((bytes_eq-Decides name (text x)).0 e))) (none_left text name none xs)
 
--- what is read of a name
-no_value : {A : Type 0} (text : A → List ℕ) (name : List ℕ) (r : Result A ⊤) (e : ⊤) → Reads text name r → r ≡ Err e → (x : A) → ¬ name ≡ text x
-no_value text name r e reads is x same = let k : Err e ≡ Ok x = sym is ∙ (reads x).1 same in absurd (cc k)
+-- what is read of a name adds the lines of the one operator that has it; where nothing is read, none has it
+module _ {A : Type 0} (text : A → List ℕ) (all : List A) (callee : A → WgslCallee)
+    (one : (o : A) → map callee (filter (λ x. bytes_eq (text o) (text x)) all) ≡ callee o ∷ []) (name : List ℕ) (r : Result A ⊤) (reads : Reads text name r) where
+  abbrev named : List ℕ → List (List ℕ)
+  named name = flat_map texts_listed (map callee (filter (λ x. bytes_eq name (text x)) all))
 
-pub unary_listed : (name : List ℕ) (r : Result UnaryOperator ⊤) (o : UnaryOperator) → Reads unary_text name r → r ≡ Ok o → flat_map texts_listed (unary_operators_named name) ≡ texts_listed (a_unary o)
-unary_listed name r o reads is =
-    ap (λ n. flat_map texts_listed (unary_operators_named n)) ((reads o).0 is) ∙ ap (flat_map texts_listed) (one_unary o) ∙ append-nil (texts_listed (a_unary o))
+  pub adds : (o : A) → r ≡ Ok o → (made : Result (Unit {0}) AllocError) (old new : List (List ℕ)) → IfOk made (λ u. new ≡ old ++ texts_listed (callee o)) → IfOk made (λ u. new ≡ old ++ named name)
+  adds o is made old new h =
+      let same : texts_listed (callee o) ≡ named name = sym (ap named ((reads o).0 is) ∙ ap (flat_map texts_listed) (one o) ∙ append-nil (texts_listed (callee o))) in
+      subst (λ lines. IfOk made (λ u. new ≡ old ++ lines)) same h
 
-pub no_unary_listed : (name : List ℕ) (r : Result UnaryOperator ⊤) (e : ⊤) → Reads unary_text name r → r ≡ Err e → flat_map texts_listed (unary_operators_named name) ≡ []
-no_unary_listed name r e reads is =
-    ap (λ os. flat_map texts_listed (map a_unary os)) (none_left unary_text name (no_value unary_text name r e reads is) unary_operators)
-
-pub binary_listed : (name : List ℕ) (r : Result BinaryOperator ⊤) (o : BinaryOperator) → Reads binary_text name r → r ≡ Ok o → flat_map texts_listed (binary_operators_named name) ≡ texts_listed (a_binary o)
-binary_listed name r o reads is =
-    ap (λ n. flat_map texts_listed (binary_operators_named n)) ((reads o).0 is) ∙ ap (flat_map texts_listed) (one_binary o) ∙ append-nil (texts_listed (a_binary o))
-
-pub no_binary_listed : (name : List ℕ) (r : Result BinaryOperator ⊤) (e : ⊤) → Reads binary_text name r → r ≡ Err e → flat_map texts_listed (binary_operators_named name) ≡ []
-no_binary_listed name r e reads is =
-    ap (λ os. flat_map texts_listed (map a_binary os)) (none_left binary_text name (no_value binary_text name r e reads is) binary_operators)
+  pub adds_none : (e : ⊤) → r ≡ Err e → (old : List (List ℕ)) → old ≡ old ++ named name
+  adds_none e is old =
+      let no_value = λ (x : A) (same : name ≡ text x). let k : Err e ≡ Ok x = sym is ∙ (reads x).1 same in absurd (cc k) in
+      sym (append-nil old) ∙ ap (λ os. old ++ flat_map texts_listed (map callee os)) (sym (none_left text name no_value all))

@@ -1,7 +1,7 @@
 // Calls that are forms: `&x`, `*x` and `array(x, y)`, which have no overloads.
-ghost use Rattle.std.specs.Prelude.{◌≡◌, ◌∷◌, [], map, option_map};
+ghost use Rattle.std.specs.Prelude.{◌≡◌, map, option_map};
 ghost use Rattle.wgsl_requests.specs.Prelude.{parameter_view, view};
-ghost use Rattle.wgsl_requests.specs.Requests.{array_form as array_there, array_parameters as parameters_there, constructor_form as constructor_there, form_of_call, unary_form as unary_there, typed_array_of};
+ghost use Rattle.wgsl_requests.specs.Requests.{array_form as array_there, array_parameters as parameters_there, form_of_call, unary_form as unary_there};
 ghost use Rattle.wgsl_requests.specs.Views.{call_view, form_view, written_view};
 
 use crate::prelude::*;
@@ -16,42 +16,18 @@ pub fn form_of_call<'r>(call: &Call<'r>) -> Option<Form<'r>>
 {
     match call.callee {
         Callee::Unary(operator) => unary_form(operator, call.operands),
-        Callee::Constructor(name) => constructor_form(name, call.template, call.operands),
-        Callee::Binary(_) | Callee::Function(_) => None,
+        Callee::Constructor(name) if name == "array" => array_form(call.template, call.operands),
+        _ => None,
     }
 }
 
 fn unary_form<'r>(operator: UnaryOperator, operands: &[Operand<'r>]) -> Option<Form<'r>>
     ensures { option_map form_view result ≡ unary_there (map written_view operands.now) operator }
 {
-    match operands {
-        [x] => operator_form(operator, *x),
+    match (operands, operator) {
+        ([x], UnaryOperator::AddressOf) => Some(Form::Address(*x, Referent::Whole)),
+        ([x], UnaryOperator::Indirection) => Some(Form::Indirection(*x)),
         _ => None,
-    }
-}
-
-fn operator_form<'r>(operator: UnaryOperator, x: Operand<'r>) -> Option<Form<'r>>
-    ensures { option_map form_view result ≡ unary_there (written_view x.entry ∷ []) operator }
-{
-    match operator {
-        UnaryOperator::AddressOf => Some(Form::Address(x, Referent::Whole)),
-        UnaryOperator::Indirection => Some(Form::Indirection(x)),
-        _ => None,
-    }
-}
-
-fn constructor_form<'r>(
-    name: &str,
-    template: Option<&'r [TpltParam]>,
-    operands: &'r [Operand<'r>],
-) -> Option<Form<'r>>
-    ensures { option_map form_view result ≡ constructor_there name.now
-        (option_map (λ ps. map parameter_view ps.now) template.entry) (map written_view operands.now) }
-{
-    if name == "array" {
-        array_form(template, operands)
-    } else {
-        None
     }
 }
 
@@ -61,17 +37,11 @@ fn array_form<'r>(template: Option<&'r [TpltParam]>, values: &'r [Operand<'r>]) 
 {
     match template {
         None => Some(Form::Array(values)),
-        Some(parameters) => typed_array_form(parameters, values),
+        Some(parameters) => {
+            let (element, count) = array_parameters(parameters)?;
+            Some(Form::ArrayOf(element, count, values))
+        }
     }
-}
-
-fn typed_array_form<'r>(parameters: &'r [TpltParam], values: &'r [Operand<'r>]) -> Option<Form<'r>>
-    ensures { option_map form_view result
-        ≡ option_map (λ p. typed_array_of p.0 p.1 (map written_view values.now))
-        (parameters_there (map parameter_view parameters.now)) }
-{
-    let (element, count) = array_parameters(parameters)?;
-    Some(Form::ArrayOf(element, count, values))
 }
 
 /// The element type and the number of elements.

@@ -1,13 +1,8 @@
 -- References to what is formed from a type in memory, and what they load as.
 use Rattle.std.specs.Prelude.{Option, Some, None, Result}
-use Rattle.wgsl_syntax.specs.declared.address.AddressSpace.{AddressSpace}
-use Rattle.wgsl_syntax.specs.declared.address.AccessMode.{AccessMode}
-use Rattle.wgsl_rules.specs.types.Types.{WgslType}
+use Rattle.wgsl_forms.specs.Prelude.{AddressSpace, AccessMode, WgslType, MemoryView, Reference, Referent}
 use Rattle.wgsl_forms.specs.Load.{loaded, stored_loaded}
 use Rattle.wgsl_forms.specs.Refusals.{Refusal}
-use Rattle.wgsl_forms.specs.declared.form.MemoryView.{MemoryView}
-use Rattle.wgsl_forms.specs.declared.form.MemoryView.TheVariants.{Reference}
-use Rattle.wgsl_forms.specs.declared.form.Referent.{Referent}
 
 -- the reference in that address space, with that access mode
 abbrev pub reference_to : Option (AddressSpace × AccessMode) → Referent → Option MemoryView

@@ -1,7 +1,6 @@
 -- Which result structs are those of abstract floats.
 use Rattle.std.specs.Prelude.{Option, Some, None}
-use Rattle.wgsl_syntax.specs.declared.result_struct.ResultFunction.{ResultFunction}
-use Rattle.wgsl_syntax.specs.declared.result_struct.ResultShape.{ResultShape}
+use Rattle.wgsl_forms.specs.Prelude.{ResultFunction, ResultShape}
 use Rattle.wgsl_syntax.specs.declared.result_struct.ResultPrecision.{ResultPrecision}
 use Rattle.wgsl_syntax.specs.declared.result_struct.ResultPrecision.TheVariants as precision
 use Rattle.wgsl_syntax.specs.declared.result_struct.ResultStruct.{ResultStruct}

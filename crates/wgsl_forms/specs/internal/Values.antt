@@ -1,13 +1,12 @@
 -- The scalar, the vector or the matrix that an overload returns.
 use Rattle.std.specs.Prelude.{Option, Some, None}
-use Rattle.wgsl_syntax.specs.declared.scalar.Scalar.{Scalar}
+use Rattle.wgsl_forms.specs.Prelude.{Scalar, component_in, dimensions_in, result_of}
 use Rattle.wgsl_syntax.specs.declared.overload.Dimensions.{Dimensions}
 use Rattle.wgsl_syntax.specs.declared.overload.Substitution.{Substitution}
 use Rattle.wgsl_syntax.specs.declared.overload.Overload.{Overload}
 use Rattle.wgsl_syntax.specs.declared.overload.Pattern.TheVariants as patterns
 use Rattle.wgsl_syntax.specs.declared.overload.Returns.{Returns}
 use Rattle.wgsl_syntax.specs.declared.overload.Returns.TheVariants.{Gives}
-use Rattle.wgsl_rules.specs.standard.Overloads.{component_in, dimensions_in, result_of}
 
 -- `vecN<T>` where N is 3 and T is f32: three components, which are f32; None of a texture, a struct or nothing
 abbrev pub value_returned : Substitution → Returns → Option (Dimensions × Scalar)

@@ -1,11 +1,6 @@
 // The fields of a struct, and the padding after each.
 
-use crate::forms::names::{Language, Names, Role};
-use crate::told::{data_size, end_of};
-use std::alloc::{AllocError, Global};
-use wgsl_source::measured::MeasuredType;
-use wgsl_source::module::Module;
-use wgsl_source::structure::Struct;
+use crate::prelude::*;
 
 /// A member of a struct in another language.
 #[derive(Drop)]

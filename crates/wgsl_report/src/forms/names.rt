@@ -2,14 +2,33 @@
 
 use crate::forms::reserved::{is_c_name, is_python_name, is_rust_keyword, is_rust_type};
 use crate::forms::settled::is_settled;
-use std::alloc::{AllocError, Global};
-use std::collections::BTreeSet;
+use crate::prelude::*;
 
 #[derive(Clone, Copy, PartialEq, Eq)]
 pub enum Language {
     C,
     Rust,
     Python,
+}
+
+impl Language {
+    /// The type of a scalar, for Python that of numpy. A `bool` is 4 bytes, an `f16` is 2.
+    pub fn scalar_name(self, scalar: Scalar) -> &'static str {
+        let (c, rust, numpy) = match scalar {
+            Scalar::I32 | Scalar::AbstractInt => ("int32_t", "i32", "<i4"),
+            Scalar::Bool | Scalar::U32 => ("uint32_t", "u32", "<u4"),
+            Scalar::F32 | Scalar::AbstractFloat => ("float", "f32", "<f4"),
+            Scalar::F16 => ("uint16_t", "u16", "<f2"),
+            Scalar::I64 => ("int64_t", "i64", "<i8"),
+            Scalar::U64 => ("uint64_t", "u64", "<u8"),
+            Scalar::F64 => ("double", "f64", "<f8"),
+        };
+        match self {
+            Language::C => c,
+            Language::Rust => rust,
+            Language::Python => numpy,
+        }
+    }
 }
 
 /// What a name is for.
@@ -50,7 +69,7 @@ impl Names {
         Ok(all)
     }
 
-    fn tell_apart(&mut self, alloc: Global, names: &[&str]) -> Result<(), AllocError> {
+    fn tell_apart(&mut self, alloc: Global, names: &[&str]) -> Written {
         for (index, name) in names.iter().enumerate() {
             if let Some(new) = self.spelled.get_mut(index) {
                 if new.as_str() != *name {
@@ -78,7 +97,7 @@ impl Names {
 }
 
 /// Appends `_` to a name until it isn't taken, and takes it.
-fn take(alloc: Global, taken: &mut BTreeSet<String>, name: &mut String) -> Result<(), AllocError> {
+fn take(alloc: Global, taken: &mut BTreeSet<String>, name: &mut String) -> Written {
     for _ in 0..taken.len() {
         if !taken.contains(name.as_str()) {
             break;
@@ -123,14 +142,14 @@ fn is_kept(language: Language, role: Role, name: &str) -> bool {
 
 /// Adds a name. A character that a normalization might change or combine with others is written as its code. So two
 /// names that normalize to the same name stay distinct.
-fn push_settled(output: &mut String, name: &str) -> Result<(), AllocError> {
+fn push_settled(output: &mut String, name: &str) -> Written {
     for letter in name.chars() {
         push_letter(output, letter)?;
     }
     Ok(())
 }
 
-fn push_letter(output: &mut String, letter: char) -> Result<(), AllocError> {
+fn push_letter(output: &mut String, letter: char) -> Written {
     if is_settled(letter) {
         output.push(letter)
     } else {
@@ -141,7 +160,7 @@ fn push_letter(output: &mut String, letter: char) -> Result<(), AllocError> {
 
 /// Adds a name as `push_settled` does, with an `x` in front of each `_` for which C or C++ reserves it: a second one in a
 /// row, and a first letter that a capital follows, or that begins the name of a struct.
-fn push_unreserved(output: &mut String, role: Role, name: &str) -> Result<(), AllocError> {
+fn push_unreserved(output: &mut String, role: Role, name: &str) -> Written {
     let mut is_reserved = match name.as_bytes() {
         [b'_', b'A'..=b'Z', ..] => true,
         _ => role == Role::Struct,

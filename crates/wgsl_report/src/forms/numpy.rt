@@ -1,18 +1,10 @@
 // Structs as dtypes of numpy.
 
-use crate::forms::fields::struct_names;
-use crate::forms::names::{Language, Names};
-use crate::layers::{Base, Shape, shape_of};
-use crate::source::Source;
-use crate::write::{Piece, write_all};
-use std::alloc::{AllocError, Global};
-use wgsl_source::measured::MeasuredType;
-use wgsl_source::module::Module;
-use wgsl_source::structure::Struct;
-use wgsl_syntax::scalar::Scalar;
+use crate::layers::Shape;
+use crate::prelude::*;
 
 /// Writes the chosen structs, each after those inside it.
-pub fn write_numpy(output: &mut String, source: Source) -> Result<(), AllocError> {
+pub fn write_numpy(output: &mut String, source: Source) -> Written {
     output.push_str("import numpy\n")?;
     let names = struct_names(source.alloc, source.module, Language::Python)?;
     let writer = Writer {
@@ -36,18 +28,9 @@ struct Writer<'a> {
 }
 
 impl<'a> Writer<'a> {
-    fn write_struct(
-        self,
-        output: &mut String,
-        index: usize,
-        structure: &Struct,
-    ) -> Result<(), AllocError> {
-        let start = [
-            Piece::Text("\n"),
-            Piece::Text(self.names.get(index)),
-            Piece::Text(" = numpy.dtype({\n    'names': ["),
-        ];
-        write_all(output, &start)?;
+    fn write_struct(self, output: &mut String, index: usize, structure: &Struct) -> Written {
+        let name = self.names.get(index);
+        write!(output, "\n{name} = numpy.dtype({{\n    'names': [")?;
         for (index, member) in structure.members.iter().enumerate() {
             let name = member.name;
             let separator = separator(index);
@@ -68,7 +51,7 @@ impl<'a> Writer<'a> {
         write!(output, "],\n    'itemsize': {size},\n}})\n")
     }
 
-    fn write_format(self, output: &mut String, ty: MeasuredType) -> Result<(), AllocError> {
+    fn write_format(self, output: &mut String, ty: MeasuredType) -> Written {
         match shape_of(self.alloc, self.module, ty)? {
             Some(shape) => output.push_str(self.format(&shape)?.as_str()),
             None => Ok(()),
@@ -94,7 +77,7 @@ impl<'a> Writer<'a> {
     fn base(self, base: Base) -> Result<String, AllocError> {
         match base {
             Base::Scalar(scalar) => {
-                let name = scalar_name(scalar);
+                let name = Language::Python.scalar_name(scalar);
                 format!(in self.alloc; "'{name}'")
             }
             Base::Struct(index) => String::from_str(self.alloc, self.names.get(index)),
@@ -116,27 +99,7 @@ fn counted(alloc: Global, base: &str, counts: &str) -> Result<String, AllocError
 
 /// A format that is padded to the stride.
 fn padded(alloc: Global, inner: &str, stride: u32) -> Result<String, AllocError> {
-    let mut format = String::new(alloc);
-    let pieces = [
-        Piece::Text("numpy.dtype({'names': ['value'], 'formats': ["),
-        Piece::Text(inner),
-        Piece::Text("], 'offsets': [0], 'itemsize': "),
-        Piece::Number(Some(stride)),
-        Piece::Text("})"),
-    ];
-    write_all(&mut format, &pieces)?;
-    Ok(format)
-}
-
-/// The numpy name of a scalar. A `bool` is 4 bytes.
-fn scalar_name(scalar: Scalar) -> &'static str {
-    match scalar {
-        Scalar::I32 | Scalar::AbstractInt => "<i4",
-        Scalar::Bool | Scalar::U32 => "<u4",
-        Scalar::F32 | Scalar::AbstractFloat => "<f4",
-        Scalar::F16 => "<f2",
-        Scalar::I64 => "<i8",
-        Scalar::U64 => "<u8",
-        Scalar::F64 => "<f8",
-    }
+    format!(in alloc;
+        "numpy.dtype({{'names': ['value'], 'formats': [{inner}], 'offsets': [0], 'itemsize': {stride}}})"
+    )
 }

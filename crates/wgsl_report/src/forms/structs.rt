@@ -1,14 +1,21 @@
 // Structs with their padding as fields, in C and in Rust.
 
-use crate::forms::fields::{Field, fields_of, struct_names};
-use crate::forms::names::{Language, Names};
-use crate::forms::{c, rust};
-use crate::layers::{Base, shape_of};
-use crate::source::Source;
-use std::alloc::{AllocError, Global};
-use std::collections::BTreeMap;
-use wgsl_source::module::Module;
-use wgsl_source::structure::Struct;
+use crate::prelude::*;
+
+/// The beginning of a header in C11 or C++11.
+const C_HEAD: &str = "\
+#pragma once
+#include <assert.h>
+#include <stddef.h>
+#include <stdint.h>
+";
+
+/// What stands in front of a struct in Rust. Its padding is in fields, so `repr(C)` adds none.
+const RUST_HEAD: &str = "\
+#[allow(non_camel_case_types, non_snake_case)]
+#[repr(C)]
+#[derive(Clone, Copy, Debug, PartialEq)]
+";
 
 /// The type of a field: its innermost element, and in C the counts that follow the name.
 #[derive(Drop)]
@@ -18,11 +25,7 @@ pub struct FieldType {
 }
 
 /// Writes the chosen structs, each after those inside it.
-pub fn write_structs(
-    output: &mut String,
-    source: Source,
-    language: Language,
-) -> Result<(), AllocError> {
+pub fn write_structs(output: &mut String, source: Source, language: Language) -> Written {
     let mut writer = Writer {
         alloc: source.alloc,
         module: source.module,
@@ -30,6 +33,10 @@ pub fn write_structs(
         names: struct_names(source.alloc, source.module, language)?,
         padded: BTreeMap::new(source.alloc),
     };
+    output.push_str(match language {
+        Language::C => C_HEAD,
+        _ => "",
+    })?;
     for index in 0..source.module.structs.len() {
         if let Some(structure) = source.chosen(index) {
             writer.write_struct(output, index, structure)?;
@@ -49,12 +56,7 @@ struct Writer<'a> {
 }
 
 impl<'a> Writer<'a> {
-    fn write_struct(
-        &mut self,
-        output: &mut String,
-        index: usize,
-        structure: &Struct,
-    ) -> Result<(), AllocError> {
+    fn write_struct(&mut self, output: &mut String, index: usize, structure: &Struct) -> Written {
         let fields = fields_of(self.alloc, self.module, structure, self.language)?;
         let mut body = String::new(self.alloc);
         for field in &fields {
@@ -65,19 +67,11 @@ impl<'a> Writer<'a> {
         for field in &fields {
             self.write_offset_check(output, name.as_str(), field)?;
         }
-        match self.language {
-            Language::C => c::write_size_check(output, name.as_str(), structure.size),
-            _ => rust::write_size_check(output, name.as_str(), structure.size),
-        }
+        self.write_size_check(output, name.as_str(), structure.size)
     }
 
     /// Adds a field and the padding after it to a body, and writes the structs that it needs for padded elements.
-    fn write_field(
-        &mut self,
-        output: &mut String,
-        body: &mut String,
-        field: &Field,
-    ) -> Result<(), AllocError> {
+    fn write_field(&mut self, output: &mut String, body: &mut String, field: &Field) -> Written {
         let Some(shape) = shape_of(self.alloc, self.module, field.ty)? else {
             return Ok(());
         };
@@ -97,10 +91,7 @@ impl<'a> Writer<'a> {
 
     fn base(&self, base: Base) -> Result<FieldType, AllocError> {
         match base {
-            Base::Scalar(scalar) => self.plain(match self.language {
-                Language::C => c::scalar_name(scalar),
-                _ => rust::scalar_name(scalar),
-            }),
+            Base::Scalar(scalar) => self.plain(self.language.scalar_name(scalar)),
             Base::Struct(index) => self.named(self.names.get(index)),
         }
     }
@@ -158,39 +149,55 @@ impl<'a> Writer<'a> {
         Ok(ty)
     }
 
-    fn declare(&self, body: &mut String, name: &str, ty: &FieldType) -> Result<(), AllocError> {
+    fn declare(&self, body: &mut String, name: &str, ty: &FieldType) -> Written {
+        let FieldType { base, counts } = ty;
         match self.language {
-            Language::C => c::declare(body, name, ty),
-            _ => rust::declare(body, name, ty),
+            Language::C => write!(body, "    {base} {name}{counts};\n"),
+            _ => write!(body, "    pub {name}: {base},\n"),
         }
     }
 
-    fn declare_padding(&self, body: &mut String, name: &str, size: u32) -> Result<(), AllocError> {
+    fn declare_padding(&self, body: &mut String, name: &str, size: u32) -> Written {
         match self.language {
-            Language::C => c::declare_padding(body, name, size),
-            _ => rust::declare_padding(body, name, size),
+            Language::C => write!(body, "    uint8_t {name}[{size}];\n"),
+            _ => write!(body, "    pub {name}: [u8; {size}],\n"),
         }
     }
 
-    fn write_body(&self, output: &mut String, name: &str, body: &str) -> Result<(), AllocError> {
+    fn write_body(&self, output: &mut String, name: &str, body: &str) -> Written {
         if !output.is_empty() {
             output.push_str("\n")?;
         }
         match self.language {
-            Language::C => c::write_body(output, name, body),
-            _ => rust::write_body(output, name, body),
+            Language::C => write!(output, "struct {name} {{\n{body}}};\n"),
+            _ => write!(output, "{RUST_HEAD}pub struct {name} {{\n{body}}}\n"),
         }
     }
 
-    fn write_offset_check(
-        &self,
-        output: &mut String,
-        name: &str,
-        field: &Field,
-    ) -> Result<(), AllocError> {
+    fn write_offset_check(&self, output: &mut String, name: &str, field: &Field) -> Written {
+        let (field, offset) = (field.name.as_str(), field.offset);
         match self.language {
-            Language::C => c::write_offset_check(output, name, field.name.as_str(), field.offset),
-            _ => rust::write_offset_check(output, name, field.name.as_str(), field.offset),
+            Language::C => write!(
+                output,
+                "static_assert(offsetof(struct {name}, {field}) == {offset}, \"\");\n"
+            ),
+            _ => write!(
+                output,
+                "const _: () = assert!(std::mem::offset_of!({name}, {field}) == {offset});\n"
+            ),
+        }
+    }
+
+    fn write_size_check(&self, output: &mut String, name: &str, size: u32) -> Written {
+        match self.language {
+            Language::C => write!(
+                output,
+                "static_assert(sizeof(struct {name}) == {size}, \"\");\n"
+            ),
+            _ => write!(
+                output,
+                "const _: () = assert!(std::mem::size_of::<{name}>() == {size});\n"
+            ),
         }
     }
 }

@@ -2,8 +2,7 @@
 ghost use Rattle.std.specs.Prelude.{◌↔◌, IsTrue};
 ghost use Rattle.wgsl_report.specs.spaces.Spaces.{IsShared, MayBeInnermost, MayHold, TakesAtomics};
 
-use crate::spaces::layout::Shape;
-use wgsl_syntax::address::{AccessMode, AddressSpace};
+use crate::prelude::*;
 
 /// What the rules see of the type that is innermost in arrays, vectors and structs.
 #[derive(Clone, Copy)]

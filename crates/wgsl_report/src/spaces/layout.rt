@@ -3,7 +3,7 @@ ghost use Rattle.std.specs.Prelude.{◌≡◌, ◌↔◌, IsTrue, MatchOption};
 ghost use Rattle.std.specs.Int.{◌∣◌};
 ghost use Rattle.wgsl_report.specs.spaces.Spaces.{AreApart, Breaks, IsAlignAttribute, IsAligned, IsBehind, IsLifted, IsSizeAttribute, LieApart, MayLie, required_align, up_to_16};
 
-use wgsl_syntax::address::AddressSpace;
+use crate::prelude::*;
 
 /// What the rules see of a type: its size and its alignment in bytes, and whether it is an array or a struct.
 #[derive(Clone, Copy)]

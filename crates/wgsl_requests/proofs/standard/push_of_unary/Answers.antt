@@ -1,13 +1,11 @@
-use Rattle.wgsl_requests.proofs.Shared.{◌≡◌, ◌∙◌, ◌++◌, map, ap, subst, sym, IfOk, append-nil, line_of}
-use Rattle.wgsl_requests.proofs.Overloaded.{unary_listed, no_unary_listed}
+use Rattle.wgsl_requests.proofs.Shared.{map, line_of, a_unary}
+use Rattle.wgsl_syntax.specs.Operator.{unary_operators, unary_text}
+use Rattle.wgsl_standard.proofs.NumberedLines.{one_unary}
+use Rattle.wgsl_requests.proofs.Overloaded.{adds, adds_none}
 use Rattle.wgsl_requests.proofs.standard.push_of_unary.Goals as goal
 
 pub returns-in-Ok : goal.returns-in-Ok
-returns-in-Ok c =
-    subst (λ lines. IfOk c.push_of.result (λ u. map line_of c.push_of.new.all.items ≡ map line_of c.args.all.now.items ++ lines))
-    (sym (unary_listed c.args.name.now _ _ c.from_str.ensures c.in-Ok.is)) c.push_of.ensures
+returns-in-Ok c = adds unary_text unary_operators a_unary one_unary _ _ c.from_str.ensures _ c.in-Ok.is c.push_of.result (map line_of c.args.all.now.items) (map line_of c.push_of.new.all.items) c.push_of.ensures
 
 pub returns-in-Err : goal.returns-in-Err
-returns-in-Err c =
-    let old = map line_of c.args.all.now.items in
-    sym (append-nil old) ∙ ap (λ lines. old ++ lines) (sym (no_unary_listed c.args.name.now _ _ c.from_str.ensures c.in-Err.is))
+returns-in-Err c = adds_none unary_text unary_operators a_unary one_unary _ _ c.from_str.ensures _ c.in-Err.is (map line_of c.args.all.now.items)

@@ -1,9 +1,4 @@
-use Rattle.std.proofs.Common.{◌≡◌, drop, reverse, ap, arith}
-use Rattle.std.proofs.lemmas.Grind.{common_steps}
-use Rattle.std.proofs.lemmas.List.{length-reverse}
-use Rattle.std.proofs.Math.Logic.{∥∥₁_map}
-use Rattle.wgsl_names.specs.Indices.{start}
-use Rattle.wgsl_names.specs.Scopes.{starts_of}
+use Rattle.wgsl_names.proofs.Common.{◌≡◌, drop, reverse, ap, arith, common_steps, length-reverse, ∥∥₁_map, start, starts_of}
 use Rattle.wgsl_names.proofs.Indices.{indexed_closed}
 use Rattle.wgsl_names.proofs.Scopes.{view_closed}
 use Rattle.wgsl_names.proofs.scope.Locals.close.Goals as goal

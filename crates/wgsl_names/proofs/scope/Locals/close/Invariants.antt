@@ -1,6 +1,4 @@
-use Rattle.std.proofs.Common.{◌≡◌, length, take, vec_len}
-use Rattle.wgsl_names.specs.Indices.{names_of, start}
-use Rattle.wgsl_names.specs.Scopes.{locals_of, starts_of, before}
+use Rattle.wgsl_names.proofs.Common.{◌≡◌, length, take, vec_len, names_of, start, locals_of, starts_of, before}
 use Rattle.wgsl_names.proofs.scope.Locals.close.Given as goal
 
 abbrev pub invariant-loop-self : goal.invariant-loop-self

@@ -1,8 +1,4 @@
-use Rattle.std.proofs.Common.{◌≡◌, [], ◌∷◌, ◌++◌, ◌∙◌, ap, length, vec_len, arith}
-use Rattle.std.proofs.Math.Logic.{∥∥₁_map}
-use Rattle.std.proofs.lemmas.List.{length-reverse}
-use Rattle.wgsl_names.specs.declared.scope.Local.{Local}
-use Rattle.wgsl_names.specs.Scopes.{locals_of, starts_of}
+use Rattle.wgsl_names.proofs.Common.{◌≡◌, [], ◌∷◌, ◌++◌, ◌∙◌, ap, length, vec_len, arith, ∥∥₁_map, length-reverse, Local, locals_of, starts_of}
 use Rattle.wgsl_names.proofs.Indices.{reverse_push, indexed_declared, indexed_unchanged}
 use Rattle.wgsl_names.proofs.Scopes.{cut_declared, are_nested}
 use Rattle.wgsl_names.proofs.scope.Locals.declare.Goals as goal

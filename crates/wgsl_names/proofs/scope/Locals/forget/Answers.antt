@@ -1,7 +1,4 @@
-use Rattle.std.proofs.Common.{◌≡◌, sym, ap, arith}
-use Rattle.std.proofs.Math.Logic.{∥∥₁_map}
-use Rattle.std.proofs.lemmas.Grind.{common_steps}
-use Rattle.wgsl_names.specs.Scopes.{starts_of}
+use Rattle.wgsl_names.proofs.Common.{◌≡◌, sym, ap, arith, ∥∥₁_map, common_steps, starts_of}
 use Rattle.wgsl_names.proofs.Indices.{indexed_forgotten, indexed_unchanged, last_is}
 use Rattle.wgsl_names.proofs.scope.Locals.forget.Goals as goal
 

@@ -1,7 +1,4 @@
-use Rattle.std.proofs.Common.{arith}
-use Rattle.std.proofs.Math.Logic.{∥∥₁_map}
-use Rattle.std.proofs.lemmas.List.{length-reverse}
-use Rattle.wgsl_names.specs.Scopes.{locals_of, starts_of}
+use Rattle.wgsl_names.proofs.Common.{arith, ∥∥₁_map, length-reverse, locals_of, starts_of}
 use Rattle.wgsl_names.proofs.Indices.{reverse_push, indexed_opened}
 use Rattle.wgsl_names.proofs.Scopes.{cut_opened}
 use Rattle.wgsl_names.proofs.scope.Locals.open.Goals as goal
