@@ -1,5 +1,5 @@
 // Reads tokens by the grammar.
-ghost use Rattle.std.specs.Prelude.{◌≡◌, ◌+◌, ◌++◌, ◌<◌, ◌∷◌, [], IfOk, ◌≤◌, IsFalse, IsTrue, MatchOption, drop, length, map};
+ghost use Rattle.std.specs.Prelude.{◌≡◌, ◌↔◌, ◌+◌, ◌++◌, ◌<◌, ◌∷◌, [], IfOk, ◌≤◌, IsFalse, IsTrue, MatchOption, drop, length, map};
 ghost use Rattle.wgsl_reader.specs.Frames.{below};
 ghost use Rattle.wgsl_reader.specs.Reading.{IsOther, ReadAt, kind_of, next_kind, outcome_of};
 ghost use Rattle.wgsl_reader.specs.declared.grammar.Symbol.TheVariants.{Rule as rule};
@@ -51,14 +51,16 @@ fn is_next(kind: Kind, tokens: &[Token], at: usize) -> bool
     ensures other { IsFalse result → IsOther kind (map kind_of (drop at tokens.now)) }
 {
     match token_at(tokens, at) {
-        Some(token) => {
-            if token.kind == kind {
-                return true;
-            }
-            false
-        }
+        Some(token) => is(token.kind, kind),
         None => false,
     }
+}
+
+/// Whether two kinds are the same.
+fn is(kind: Kind, other: Kind) -> bool
+    ensures { IsTrue result ↔ (kind ≡ other) }
+{
+    kind == other
 }
 
 /// The first of some symbols, and those behind it.
