@@ -3,7 +3,7 @@ use Rattle.std.proofs.Common.{◌≡◌, ◌+◌, ◌++◌, ℕ, suc, Bool, true
 use Rattle.wgsl_reader.proofs.Passed.{step_passes}
 use Rattle.wgsl_spelling.proofs.Common.{Search, begun, found_from, of_kind, opened_behind, with_lists, Token}
 use Rattle.wgsl_reader.specs.declared.kind.Kind.TheVariants as k
-use Rattle.wgsl_spelling.proofs.Trees.{Tree, digits, name, one, past, three, token, tokens, two}
+use Rattle.wgsl_spelling.proofs.Trees.{Tree, digits, list, name, parts, past, token, tokens}
 
 -- what is open is that of another state
 abbrev search : List Token → Bool → Search → Search
@@ -21,17 +21,8 @@ listed t at more = tokens k.OpenTemplate k.CloseTemplate t at more
 more_behind : (t : Tree) (at : ℕ) (more others : List Token) → listed t at more ++ others ≡ listed t at (more ++ others)
 more_behind (name w) at more others = refl
 more_behind (digits n) at more others = refl
-more_behind (one w a) at more others = ap (λ ts. token k.Name at (length w) ∷ token k.OpenTemplate (at + length w) 1 ∷ ts) (more_behind a (suc (at + length w)) _ others)
-more_behind (two w a b) at more others =
-    let second = past a (suc (at + length w)) in
-    ap (λ ts. token k.Name at (length w) ∷ token k.OpenTemplate (at + length w) 1 ∷ ts)
-    (more_behind a (suc (at + length w)) _ others ∙ ap (λ ts. listed a (suc (at + length w)) (token k.Comma second 1 ∷ ts)) (more_behind b (suc (suc second)) _ others))
-more_behind (three w a b c) at more others =
-    let second = past a (suc (at + length w)) in
-    let third = past b (suc (suc second)) in
-    ap (λ ts. token k.Name at (length w) ∷ token k.OpenTemplate (at + length w) 1 ∷ ts)
-    (more_behind a (suc (at + length w)) _ others ∙ ap (λ ts. listed a (suc (at + length w)) (token k.Comma second 1 ∷ ts))
-    (more_behind b (suc (suc second)) _ others ∙ ap (λ ts. listed b (suc (suc second)) (token k.Comma third 1 ∷ ts)) (more_behind c (suc (suc third)) _ others)))
+more_behind (list w t) at more others = ap (λ ts. token k.Name at (length w) ∷ token k.OpenTemplate (at + length w) 1 ∷ ts) (more_behind t (suc (at + length w)) _ others)
+more_behind (parts a b) at more others = more_behind a at _ others ∙ ap (λ ts. listed a at (token k.Comma (past a at) 1 ∷ ts)) (more_behind b (suc (suc (past a at))) more others)
 
 begun_at : (before : List Token) (t : Token) (more : List Token) → begun (length before) (before ++ t ∷ more) ≡ before ++ of_kind (k.OpenTemplate, 0) t ∷ more
 begun_at [] t more = refl
@@ -54,9 +45,6 @@ Passes t at = (before : List Token) (is_named : Bool) (s : Search) (more : List 
 at_end : (before : List Token) (x : Token) (inner : List Token) → (before ++ x ∷ []) ++ inner ≡ before ++ x ∷ inner
 at_end before x inner = append_assoc before (x ∷ []) inner
 
-grow : (named inner : List Token) (less comma : Token) (others : List Token) → ((named ++ (less ∷ inner)) ++ comma ∷ []) ++ others ≡ named ++ (less ∷ (inner ++ (comma ∷ others)))
-grow named inner less comma others = at_end (named ++ (less ∷ inner)) comma others ∙ append_assoc named (less ∷ inner) (comma ∷ others)
-
 -- the whole list, from the tokens inside
 closed : (before inner all found : List Token) (at len : ℕ) (last : Token) → found ≡ (before ++ token k.Name at len ∷ []) ++ (token k.Less (at + len) 1 ∷ inner) → inner ++ last ∷ [] ≡ all
     → begun (length (before ++ token k.Name at len ∷ [])) found ++ last ∷ [] ≡ before ++ (token k.Name at len ∷ token k.OpenTemplate (at + len) 1 ∷ all)
@@ -72,6 +60,10 @@ number_passed : (before : List Token) (is_named : Bool) (s : Search) (at len : �
     found_from 0 (search before is_named s) (token k.Number at len ∷ more) ≡ found_from 0 (search (before ++ token k.Number at len ∷ []) false s) more
 number_passed before is_named s at len more = ap (λ next. found_from next.1 next.0 more) (step_passes (search before is_named s) (token k.Number at len) more refl)
 
+comma_passed : (before : List Token) (is_named : Bool) (s : Search) (at : ℕ) (more : List Token) →
+    found_from 0 (search before is_named s) (token k.Comma at 1 ∷ more) ≡ found_from 0 (search (before ++ token k.Comma at 1 ∷ []) false s) more
+comma_passed before is_named s at more = ap (λ next. found_from next.1 next.0 more) (step_passes (search before is_named s) (token k.Comma at 1) more refl)
+
 less_passed : (before : List Token) (s : Search) (at : ℕ) (more : List Token) →
     found_from 0 (search before true s) (token k.Less at 1 ∷ more) ≡ found_from 0 (search (before ++ token k.Less at 1 ∷ []) false (deeper (length before) s)) more
 less_passed before s at more = ap (λ next. found_from next.1 next.0 more) (step_passes (search before true s) (token k.Less at 1) more refl)
@@ -86,58 +78,23 @@ begins before is_named s at len more =
 pub passes : (t : Tree) (at : ℕ) → Passes t at
 passes (name w) at before is_named s more = (true, name_passed before is_named s at (length w) more)
 passes (digits n) at before is_named s more = (false, number_passed before is_named s at (length (decimal n)) more)
-passes (one w a) at before is_named s more =
+passes (list w t) at before is_named s more =
     let from = suc (at + length w) in
     let named = before ++ token k.Name at (length w) ∷ [] in
     let angle = token k.Less (at + length w) 1 in
-    let last = token k.CloseTemplate (past a from) 1 in
-    let inside = passes a from (named ++ angle ∷ []) false (deeper (length named) s) (token k.Greater (past a from) 1 ∷ more) in
-    let all = closed before (listed a from []) (listed a from (last ∷ [])) ((named ++ angle ∷ []) ++ listed a from []) at (length w) last
-    (at_end named angle (listed a from [])) (more_behind a from [] (last ∷ [])) in
+    let last = token k.CloseTemplate (past t from) 1 in
+    let inside = passes t from (named ++ angle ∷ []) false (deeper (length named) s) (token k.Greater (past t from) 1 ∷ more) in
+    let all = closed before (listed t from []) (listed t from (last ∷ [])) ((named ++ angle ∷ []) ++ listed t from []) at (length w) last
+    (at_end named angle (listed t from [])) (more_behind t from [] (last ∷ [])) in
     (false, begins before is_named s at (length w) _ ∙ (inside.1 ∙ ap (λ ts. found_from 0 (search ts false s) more) all))
-passes (two w a b) at before is_named s more =
-    let from = suc (at + length w) in
-    let comma = token k.Comma (past a from) 1 in
-    let second = suc (suc (past a from)) in
-    let named = before ++ token k.Name at (length w) ∷ [] in
-    let angle = token k.Less (at + length w) 1 in
-    let last = token k.CloseTemplate (past b second) 1 in
-    let first = (named ++ angle ∷ []) ++ listed a from [] in
-    let in_a = passes a from (named ++ angle ∷ []) false (deeper (length named) s) (comma ∷ tokens k.Less k.Greater b second (token k.Greater (past b second) 1 ∷ more)) in
-    let in_b = passes b second (first ++ comma ∷ []) false (deeper (length named) s) (token k.Greater (past b second) 1 ∷ more) in
-    let inner = listed a from [] ++ (comma ∷ listed b second []) in
-    let found = ap (λ ts. (ts ++ comma ∷ []) ++ listed b second []) (at_end named angle (listed a from [])) ∙ grow named (listed a from []) angle comma (listed b second []) in
-    let tail = append_assoc (listed a from []) (comma ∷ listed b second []) (last ∷ [])
-    ∙ (more_behind a from [] (comma ∷ (listed b second [] ++ last ∷ [])) ∙ ap (λ ts. listed a from (comma ∷ ts)) (more_behind b second [] (last ∷ []))) in
-    let all = closed before inner (listed a from (comma ∷ listed b second (last ∷ []))) ((first ++ comma ∷ []) ++ listed b second []) at (length w) last found tail in
-    (false, begins before is_named s at (length w) _ ∙ (in_a.1 ∙ (in_b.1 ∙ ap (λ ts. found_from 0 (search ts false s) more) all)))
-passes (three w a b c) at before is_named s more =
-    let from = suc (at + length w) in
-    let comma = token k.Comma (past a from) 1 in
-    let second = suc (suc (past a from)) in
-    let comma_too = token k.Comma (past b second) 1 in
-    let third = suc (suc (past b second)) in
-    let named = before ++ token k.Name at (length w) ∷ [] in
-    let angle = token k.Less (at + length w) 1 in
-    let last = token k.CloseTemplate (past c third) 1 in
-    let first = (named ++ angle ∷ []) ++ listed a from [] in
-    let both = (first ++ comma ∷ []) ++ listed b second [] in
-    let behind_c = token k.Greater (past c third) 1 ∷ more in
-    let behind_b = comma_too ∷ tokens k.Less k.Greater c third behind_c in
-    let in_a = passes a from (named ++ angle ∷ []) false (deeper (length named) s) (comma ∷ tokens k.Less k.Greater b second behind_b) in
-    let in_b = passes b second (first ++ comma ∷ []) false (deeper (length named) s) behind_b in
-    let in_c = passes c third (both ++ comma_too ∷ []) false (deeper (length named) s) behind_c in
-    let of_two = listed a from [] ++ (comma ∷ listed b second []) in
-    let inner = of_two ++ (comma_too ∷ listed c third []) in
-    let found = ap (λ ts. (((ts ++ comma ∷ []) ++ listed b second []) ++ comma_too ∷ []) ++ listed c third []) (at_end named angle (listed a from []))
-    ∙ (ap (λ ts. (ts ++ comma_too ∷ []) ++ listed c third []) (grow named (listed a from []) angle comma (listed b second [])) ∙ grow named of_two angle comma_too (listed c third [])) in
-    let tail = append_assoc of_two (comma_too ∷ listed c third []) (last ∷ [])
-    ∙ (append_assoc (listed a from []) (comma ∷ listed b second []) (comma_too ∷ (listed c third [] ++ last ∷ []))
-    ∙ (more_behind a from [] (comma ∷ (listed b second [] ++ (comma_too ∷ (listed c third [] ++ last ∷ []))))
-    ∙ ap (λ ts. listed a from (comma ∷ ts)) (more_behind b second [] (comma_too ∷ (listed c third [] ++ last ∷ []))
-    ∙ ap (λ ts. listed b second (comma_too ∷ ts)) (more_behind c third [] (last ∷ []))))) in
-    let all = closed before inner (listed a from (comma ∷ listed b second (comma_too ∷ listed c third (last ∷ [])))) ((both ++ comma_too ∷ []) ++ listed c third []) at (length w) last found tail in
-    (false, begins before is_named s at (length w) _ ∙ (in_a.1 ∙ (in_b.1 ∙ (in_c.1 ∙ ap (λ ts. found_from 0 (search ts false s) more) all))))
+passes (parts a b) at before is_named s more =
+    let comma = token k.Comma (past a at) 1 in
+    let second = suc (suc (past a at)) in
+    let in_a = passes a at before is_named s (comma ∷ tokens k.Less k.Greater b second more) in
+    let in_b = passes b second ((before ++ listed a at []) ++ comma ∷ []) false s more in
+    let all = at_end (before ++ listed a at []) comma (listed b second [])
+    ∙ (append_assoc before (listed a at []) (comma ∷ listed b second []) ∙ ap (λ ts. before ++ ts) (more_behind a at [] (comma ∷ listed b second []))) in
+    (in_b.0, in_a.1 ∙ (comma_passed (before ++ listed a at []) in_a.0 s (past a at) (tokens k.Less k.Greater b second more) ∙ (in_b.1 ∙ ap (λ ts. found_from 0 (search ts in_b.0 s) more) all)))
 
 pub all_listed : (t : Tree) (at : ℕ) → with_lists (tokens k.Less k.Greater t at []) ≡ listed t at []
 all_listed t at = (passes t at [] false (record { tokens = []; is_named = false; opened = [] }) []).1

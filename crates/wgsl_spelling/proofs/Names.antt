@@ -1,7 +1,8 @@
 -- A value that is found by its name is that of the table.
 use Rattle.std.proofs.Common.{◌≡◌, ◌⊎◌, inl, inr, ℕ, List, MatchOption, Option, Some, None, Result, Ok, Err, refl, sym, ap, ◌∙◌}
 use Rattle.std.specs.Bool.{⊤}
-use Rattle.wgsl_spelling.proofs.Common.{IsSpace, access_modes, access_text, space_text, space_text_by, spaces, flag_text, flags, scalar_text, scalars, IsTexel, texel_formats, texel_text, texel_text_by, sampled_text, sampled_types, AccessMode, AddressSpace, AccelerationStructureFlags, Standard, Scalar, TexelFormat, SampledType, found, access_named, flag_named, format_named, or_else, sampled_named, space_named}
+use Rattle.std.specs.Result.{result_ok}
+use Rattle.wgsl_spelling.proofs.Common.{IsSpace, access_modes, access_text, space_text, space_text_by, spaces, flag_text, flags, scalar_text, scalars, IsTexel, texel_formats, texel_text, texel_text_by, sampled_text, sampled_types, AccessMode, AddressSpace, AccelerationStructureFlags, Standard, Scalar, TexelFormat, SampledType, access_named, flag_named, format_named, or_else, sampled_named, space_named}
 use Rattle.wgsl_syntax.specs.Names.{Reads, named, table}
 use Rattle.wgsl_syntax.specs.declared.address.AccessMode.TheVariants as access
 use Rattle.wgsl_syntax.specs.declared.address.AddressSpace.TheVariants as space
@@ -19,7 +20,7 @@ is_none : {A : Type 0} (o : Option A) → ((x : A) → o ≡ Some x → ⊥) →
 is_none (Some x) lacks = absurd (lacks x refl)
 is_none None lacks = refl
 
-read_named : {A : Type 0} (text : A → List ℕ) (values : List A) → Back text values → (s : List ℕ) (r : Result A ⊤) → Reads text s r → found r ≡ named (table text values) s
+read_named : {A : Type 0} (text : A → List ℕ) (values : List A) → Back text values → (s : List ℕ) (r : Result A ⊤) → Reads text s r → result_ok r ≡ named (table text values) s
 read_named text values back s (Ok x) reads = sym (ap (named (table text values)) ((reads x).0 refl) ∙ back x)
 read_named text values back s (Err e) reads =
     is_none (named (table text values) s) (λ x is. let no : Err e ≡ Ok x = (reads x).1 (named_text text values s x is) in cc no)
@@ -39,17 +40,17 @@ sampled_back _ = refl
 pub flag_back : Back flag_text flags
 flag_back flag.VertexReturn = refl
 
-pub scalar_is : (s : List ℕ) (r : Result Scalar ⊤) → Reads scalar_text s r → found r ≡ named (table scalar_text scalars) s
+pub scalar_is : (s : List ℕ) (r : Result Scalar ⊤) → Reads scalar_text s r → result_ok r ≡ named (table scalar_text scalars) s
 scalar_is = read_named scalar_text scalars scalar_back
 
-pub access_is : (s word : List ℕ) → word ≡ s → (r : Result AccessMode ⊤) → Reads access_text word r → found r ≡ access_named s
-access_is s word same r reads = read_named access_text access_modes access_back word r reads ∙ ap access_named same
+pub access_is : (s : List ℕ) (r : Result AccessMode ⊤) → Reads access_text s r → result_ok r ≡ access_named s
+access_is = read_named access_text access_modes access_back
 
-pub sampled_is : (s word : List ℕ) → word ≡ s → (r : Result SampledType ⊤) → Reads sampled_text word r → found r ≡ sampled_named s
-sampled_is s word same r reads = read_named sampled_text sampled_types sampled_back word r reads ∙ ap sampled_named same
+pub sampled_is : (s : List ℕ) (r : Result SampledType ⊤) → Reads sampled_text s r → result_ok r ≡ sampled_named s
+sampled_is = read_named sampled_text sampled_types sampled_back
 
-pub flag_is : (s word : List ℕ) → word ≡ s → (r : Result AccelerationStructureFlags ⊤) → Reads flag_text word r → found r ≡ flag_named s
-flag_is s word same r reads = read_named flag_text flags flag_back word r reads ∙ ap flag_named same
+pub flag_is : (s : List ℕ) (r : Result AccelerationStructureFlags ⊤) → Reads flag_text s r → result_ok r ≡ flag_named s
+flag_is = read_named flag_text flags flag_back
 
 -- by one name or by the other
 abbrev either : {A : Type 0} → (A → List ℕ) → (A → List ℕ) → List A → List ℕ → Option A

@@ -4,7 +4,7 @@ use Rattle.wgsl_spelling.proofs.Common.{list_all, common_steps, is_digit, is_in_
 use Rattle.wgsl_reader.specs.declared.kind.Kind.TheVariants as k
 use Rattle.wgsl_spelling.proofs.TreeNumbers.{ascii_number}
 use Rattle.wgsl_spelling.proofs.TreeTokens.{both, taken}
-use Rattle.wgsl_spelling.proofs.Trees.{Ends, IsGood, IsName, Tree, at_end, comma, digits, greater, less, name, one, past, text, three, token, two}
+use Rattle.wgsl_spelling.proofs.Trees.{Ends, IsGood, IsName, Tree, at_end, comma, digits, greater, less, list, name, parts, past, text, token}
 
 -- the text of a token that stands between others
 
@@ -71,11 +71,8 @@ word_of_number front (b ∷ bs) back some all ends = word_at k.Number front b bs
 abbrev pub Located : List ℕ → Tree → ℕ → Type 0
 Located t (name w) at = word t (token k.Name at (length w)) ≡ w
 Located t (digits n) at = word t (token k.Number at (length (decimal n))) ≡ decimal n
-Located t (one w a) at = (word t (token k.Name at (length w)) ≡ w) × Located t a (suc (at + length w))
-Located t (two w a b) at = (word t (token k.Name at (length w)) ≡ w) × Located t a (suc (at + length w)) × Located t b (suc (suc (past a (suc (at + length w)))))
-Located t (three w a b c) at =
-    (word t (token k.Name at (length w)) ≡ w) × Located t a (suc (at + length w)) × Located t b (suc (suc (past a (suc (at + length w)))))
-    × Located t c (suc (suc (past b (suc (suc (past a (suc (at + length w))))))))
+Located t (list w a) at = (word t (token k.Name at (length w)) ≡ w) × Located t a (suc (at + length w))
+Located t (parts a b) at = Located t a at × Located t b (suc (suc (past a at)))
 
 -- a byte more in front
 pushed : (front rest : List ℕ) (c : ℕ) → (front ++ c ∷ rest ≡ (front ++ c ∷ []) ++ rest) × (length (front ++ c ∷ []) ≡ suc (length front))
@@ -103,32 +100,16 @@ parted front rest =
 front_of : (t : Tree) (front rest : List ℕ) → Front t front rest
 front_of (name w) front rest = record { all = front ++ w; same = sym (append_assoc front w rest); size = length-append front w }
 front_of (digits n) front rest = record { all = front ++ decimal n; same = sym (append_assoc front (decimal n) rest); size = length-append front (decimal n) }
-front_of (one w a) front rest =
-    let i = inside front w (text a (62 ∷ rest)) in
-    let f = front_of a ((front ++ w) ++ 60 ∷ []) (62 ∷ rest) in
+front_of (list w t) front rest =
+    let i = inside front w (text t (62 ∷ rest)) in
+    let f = front_of t ((front ++ w) ++ 60 ∷ []) (62 ∷ rest) in
     let p = pushed f.all rest 62 in
-    record { all = f.all ++ 62 ∷ []; same = i.0 ∙ (f.same ∙ p.0); size = p.1 ∙ ap suc (f.size ∙ ap (past a) i.1) }
-front_of (two w a b) front rest =
-    let i = inside front w (text a (44 ∷ 32 ∷ text b (62 ∷ rest))) in
-    let f = front_of a ((front ++ w) ++ 60 ∷ []) (44 ∷ 32 ∷ text b (62 ∷ rest)) in
-    let c = parted f.all (text b (62 ∷ rest)) in
-    let g = front_of b ((f.all ++ 44 ∷ []) ++ 32 ∷ []) (62 ∷ rest) in
-    let p = pushed g.all rest 62 in
-    record { all = g.all ++ 62 ∷ []; same = i.0 ∙ (f.same ∙ (c.0 ∙ (g.same ∙ p.0))); size = p.1 ∙ ap suc (g.size ∙ ap (past b) (c.1 ∙ ap (λ n. suc (suc n)) (f.size ∙ ap (past a) i.1))) }
-front_of (three w a b d) front rest =
-    let last = text d (62 ∷ rest) in
-    let i = inside front w (text a (44 ∷ 32 ∷ text b (44 ∷ 32 ∷ last))) in
-    let f = front_of a ((front ++ w) ++ 60 ∷ []) (44 ∷ 32 ∷ text b (44 ∷ 32 ∷ last)) in
-    let c = parted f.all (text b (44 ∷ 32 ∷ last)) in
-    let g = front_of b ((f.all ++ 44 ∷ []) ++ 32 ∷ []) (44 ∷ 32 ∷ last) in
-    let e = parted g.all last in
-    let h = front_of d ((g.all ++ 44 ∷ []) ++ 32 ∷ []) (62 ∷ rest) in
-    let p = pushed h.all rest 62 in
-    record {
-      all = h.all ++ 62 ∷ [];
-      same = i.0 ∙ (f.same ∙ (c.0 ∙ (g.same ∙ (e.0 ∙ (h.same ∙ p.0)))));
-      size = p.1 ∙ ap suc (h.size ∙ ap (past d) (e.1 ∙ ap (λ n. suc (suc n)) (g.size ∙ ap (past b) (c.1 ∙ ap (λ n. suc (suc n)) (f.size ∙ ap (past a) i.1)))));
-    }
+    record { all = f.all ++ 62 ∷ []; same = i.0 ∙ (f.same ∙ p.0); size = p.1 ∙ ap suc (f.size ∙ ap (past t) i.1) }
+front_of (parts a b) front rest =
+    let f = front_of a front (44 ∷ 32 ∷ text b rest) in
+    let c = parted f.all (text b rest) in
+    let g = front_of b ((f.all ++ 44 ∷ []) ++ 32 ∷ []) rest in
+    record { all = g.all; same = f.same ∙ (c.0 ∙ g.same); size = g.size ∙ ap (past b) (c.1 ∙ ap (λ n. suc (suc n)) f.size) }
 
 named_there : (w whole front back : List ℕ) (at : ℕ) → IsName w → Ends back → whole ≡ front ++ (w ++ back) → at ≡ length front → word whole (token k.Name at (length w)) ≡ w
 named_there w whole front back at good ends is same =
@@ -140,38 +121,16 @@ located (digits n) whole front back at good ends is same =
     let d = ascii_number n good in
     ap (λ t. word t (token k.Number at (length (decimal n)))) is
     ∙ (ap (λ m. word (front ++ (decimal n ++ back)) (token k.Number m (length (decimal n)))) same ∙ word_of_number front (decimal n) back d.0 d.1 ends)
-located (one w a) whole front back at good ends is same =
-    let rest = text a (62 ∷ back) in
+located (list w t) whole front back at good ends is same =
+    let rest = text t (62 ∷ back) in
     let i = inside front w rest in (
       named_there w whole front (60 ∷ rest) at good.0 (less rest) is same,
-      located a whole ((front ++ w) ++ 60 ∷ []) (62 ∷ back) (suc (at + length w)) good.1 (greater back) (is ∙ i.0) (ap (λ n. suc (n + length w)) same ∙ sym i.1),
+      located t whole ((front ++ w) ++ 60 ∷ []) (62 ∷ back) (suc (at + length w)) good.2 (greater back) (is ∙ i.0) (ap (λ n. suc (n + length w)) same ∙ sym i.1),
     )
-located (two w a b) whole front back at good ends is same =
-    let last = text b (62 ∷ back) in
-    let rest = text a (44 ∷ 32 ∷ last) in
-    let i = inside front w rest in
-    let from = ap (λ n. suc (n + length w)) same ∙ sym i.1 in
-    let f = front_of a ((front ++ w) ++ 60 ∷ []) (44 ∷ 32 ∷ last) in
+located (parts a b) whole front back at good ends is same =
+    let last = text b back in
+    let f = front_of a front (44 ∷ 32 ∷ last) in
     let c = parted f.all last in (
-      named_there w whole front (60 ∷ rest) at good.0 (less rest) is same,
-      located a whole ((front ++ w) ++ 60 ∷ []) (44 ∷ 32 ∷ last) (suc (at + length w)) good.1 (comma (32 ∷ last)) (is ∙ i.0) from,
-      located b whole ((f.all ++ 44 ∷ []) ++ 32 ∷ []) (62 ∷ back) (suc (suc (past a (suc (at + length w))))) good.2 (greater back) (is ∙ (i.0 ∙ (f.same ∙ c.0)))
-          (ap (λ n. suc (suc n)) (ap (past a) from ∙ sym f.size) ∙ sym c.1),
-    )
-located (three w a b d) whole front back at good ends is same =
-    let last = text d (62 ∷ back) in
-    let middle = text b (44 ∷ 32 ∷ last) in
-    let rest = text a (44 ∷ 32 ∷ middle) in
-    let i = inside front w rest in
-    let from = ap (λ n. suc (n + length w)) same ∙ sym i.1 in
-    let f = front_of a ((front ++ w) ++ 60 ∷ []) (44 ∷ 32 ∷ middle) in
-    let c = parted f.all middle in
-    let second = ap (λ n. suc (suc n)) (ap (past a) from ∙ sym f.size) ∙ sym c.1 in
-    let g = front_of b ((f.all ++ 44 ∷ []) ++ 32 ∷ []) (44 ∷ 32 ∷ last) in
-    let e = parted g.all last in (
-      named_there w whole front (60 ∷ rest) at good.0 (less rest) is same,
-      located a whole ((front ++ w) ++ 60 ∷ []) (44 ∷ 32 ∷ middle) (suc (at + length w)) good.1 (comma (32 ∷ middle)) (is ∙ i.0) from,
-      located b whole ((f.all ++ 44 ∷ []) ++ 32 ∷ []) (44 ∷ 32 ∷ last) (suc (suc (past a (suc (at + length w))))) good.2 (comma (32 ∷ last)) (is ∙ (i.0 ∙ (f.same ∙ c.0))) second,
-      located d whole ((g.all ++ 44 ∷ []) ++ 32 ∷ []) (62 ∷ back) (suc (suc (past b (suc (suc (past a (suc (at + length w)))))))) good.3 (greater back) (is ∙ (i.0 ∙ (f.same ∙ (c.0 ∙ (g.same ∙ e.0)))))
-          (ap (λ n. suc (suc n)) (ap (past b) second ∙ sym g.size) ∙ sym e.1),
+      located a whole front (44 ∷ 32 ∷ last) at good.1 (comma (32 ∷ last)) is same,
+      located b whole ((f.all ++ 44 ∷ []) ++ 32 ∷ []) back (suc (suc (past a at))) good.2 ends (is ∙ (f.same ∙ c.0)) (ap (λ n. suc (suc n)) (ap (past a) same ∙ sym f.size) ∙ sym c.1),
     )

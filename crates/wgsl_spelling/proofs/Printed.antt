@@ -1,6 +1,6 @@
 -- The text that an answer prints for a type spells that type.
 use Rattle.std.proofs.Common.{◌≡◌, ◌≤◌, ◌++◌, ℕ, false, List, [], ◌∷◌, Option, Some, None, Ok, codes, decimal, refl, sym, ap, subst, ◌∙◌, arith, nat_eq, append_assoc, append-nil}
-use Rattle.wgsl_spelling.proofs.Common.{list_all, common_steps, access_text, space_text_by, flag_text, texel_text_by, sampled_text, texture_name, texture_text_by, parameters_of, AccessMode, RuleSet, TexelFormat, TextureType, then, is_in_ascii_name, listed as listed_tokens, ReadAt, mark_len, tokens_from, tokens_of, Chain, type_of, IsWritable, layers}
+use Rattle.wgsl_spelling.proofs.Common.{list_all, common_steps, access_text, texture_name, texture_text_by, parameters_of, RuleSet, TextureType, then, is_in_ascii_name, listed as listed_tokens, ReadAt, mark_len, tokens_from, tokens_of, Chain, type_of, IsWritable, layers}
 use Rattle.wgsl_syntax.specs.declared.texture.TextureType.TheVariants as x
 use Rattle.wgsl_rules.specs.types.Spelling.{spelling_by}
 use Rattle.wgsl_rules.specs.types.Types.{WgslType, scalar, struct, atomic, pointer, reference, texture, sampler, binding_array, ray_query, acceleration_structure, array, vec, mat}
@@ -8,76 +8,34 @@ use Rattle.wgsl_reader.specs.declared.kind.Kind.TheVariants as k
 use Rattle.wgsl_reader.specs.declared.rule.Rule.TheVariants as r
 use Rattle.wgsl_reader.specs.declared.grammar.Symbol.TheVariants as s
 use Rattle.wgsl_spelling.specs.Spelled.{Spells, SpellsBy, State, TokensSpell, behind, end, nothing, state, type_of_events}
-use Rattle.wgsl_spelling.proofs.Evaluated.{eval, evaluated, made}
+use Rattle.wgsl_spelling.proofs.Evaluated.{eval, evaluated, on_top, stack}
 use Rattle.wgsl_spelling.proofs.Listed.{all_listed, listed}
 use Rattle.wgsl_spelling.proofs.Placed.{located}
 use Rattle.wgsl_spelling.proofs.Tokenized.{tokenized}
 use Rattle.wgsl_spelling.proofs.TokensPlaced.{placed}
-use Rattle.wgsl_spelling.proofs.TreeEvents.{IsType, events, name_is, one_is, same_kinds, three_is, two_is, type_read}
+use Rattle.wgsl_spelling.proofs.TreeEvents.{events, same_kinds, type_read}
 use Rattle.wgsl_spelling.proofs.TreeTokens.{both}
-use Rattle.wgsl_spelling.proofs.Trees.{IsGood, IsName, Tree, at_end, name, one, text, three, tokens, two}
-use Rattle.wgsl_spelling.proofs.TypeTrees.{chain_type, texture_tree, tree, tree_good, tree_type}
+use Rattle.wgsl_spelling.proofs.Trees.{IsGood, IsName, IsType, Tree, at_end, digits, list, name, parts, text, tokens}
+use Rattle.wgsl_spelling.proofs.TypeTrees.{chain_type, texture_tree, tree, tree_good, tree_part, tree_type}
 use Rattle.wgsl_spelling.proofs.TypesRead.{reads}
 
 -- the text of the tree of a type is what is printed
 
-one_text : (w inner rest : List ℕ) → w ++ (60 ∷ (inner ++ (62 ∷ rest))) ≡ (w ++ (60 ∷ (inner ++ (62 ∷ [])))) ++ rest
-one_text w inner rest = sym (append_assoc w (60 ∷ (inner ++ (62 ∷ []))) rest ∙ ap (λ bytes. w ++ (60 ∷ bytes)) (append_assoc inner (62 ∷ []) rest))
-
-closed : (inner rest : List ℕ) → inner ++ (62 ∷ rest) ≡ (inner ++ (62 ∷ [])) ++ rest
-closed inner rest = sym (append_assoc inner (62 ∷ []) rest)
-
-parted : (a b rest : List ℕ) → a ++ (44 ∷ 32 ∷ (b ++ rest)) ≡ (a ++ (44 ∷ 32 ∷ b)) ++ rest
-parted a b rest = sym (append_assoc a (44 ∷ 32 ∷ b) rest)
-
-two_text : (w a b rest : List ℕ) → w ++ (60 ∷ (a ++ (44 ∷ 32 ∷ (b ++ (62 ∷ rest))))) ≡ (w ++ (60 ∷ (a ++ (44 ∷ 32 ∷ (b ++ (62 ∷ [])))))) ++ rest
-two_text w a b rest =
-    ap (λ bytes. w ++ (60 ∷ (a ++ (44 ∷ 32 ∷ bytes)))) (closed b rest)
-    ∙ (ap (λ bytes. w ++ (60 ∷ bytes)) (parted a (b ++ (62 ∷ [])) rest) ∙ sym (append_assoc w (60 ∷ (a ++ (44 ∷ 32 ∷ (b ++ (62 ∷ []))))) rest))
-
-three_text : (w a b c rest : List ℕ) →
-    w ++ (60 ∷ (a ++ (44 ∷ 32 ∷ (b ++ (44 ∷ 32 ∷ (c ++ (62 ∷ rest))))))) ≡ (w ++ (60 ∷ (a ++ (44 ∷ 32 ∷ (b ++ (44 ∷ 32 ∷ (c ++ (62 ∷ [])))))))) ++ rest
-three_text w a b c rest =
-    ap (λ bytes. w ++ (60 ∷ (a ++ (44 ∷ 32 ∷ (b ++ (44 ∷ 32 ∷ bytes)))))) (closed c rest)
-    ∙ (ap (λ bytes. w ++ (60 ∷ (a ++ (44 ∷ 32 ∷ bytes)))) (parted b (c ++ (62 ∷ [])) rest)
-    ∙ (ap (λ bytes. w ++ (60 ∷ bytes)) (parted a (b ++ (44 ∷ 32 ∷ (c ++ (62 ∷ [])))) rest) ∙ sym (append_assoc w (60 ∷ (a ++ (44 ∷ 32 ∷ (b ++ (44 ∷ 32 ∷ (c ++ (62 ∷ []))))))) rest)))
-
--- as it is printed: each part behind all in front of it
-
-flat_two : (a b : List ℕ) → a ++ (44 ∷ 32 ∷ (b ++ (62 ∷ []))) ≡ ((a ++ (44 ∷ 32 ∷ [])) ++ b) ++ (62 ∷ [])
-flat_two a b = sym (append_assoc (a ++ (44 ∷ 32 ∷ [])) b (62 ∷ []) ∙ append_assoc a (44 ∷ 32 ∷ []) (b ++ (62 ∷ [])))
-
-flat_three : (a b c : List ℕ) → a ++ (44 ∷ 32 ∷ (b ++ (44 ∷ 32 ∷ (c ++ (62 ∷ []))))) ≡ ((((a ++ (44 ∷ 32 ∷ [])) ++ b) ++ (44 ∷ 32 ∷ [])) ++ c) ++ (62 ∷ [])
-flat_three a b c =
-    sym (append_assoc (((a ++ (44 ∷ 32 ∷ [])) ++ b) ++ (44 ∷ 32 ∷ [])) c (62 ∷ [])
-    ∙ (append_assoc ((a ++ (44 ∷ 32 ∷ [])) ++ b) (44 ∷ 32 ∷ []) (c ++ (62 ∷ []))
-    ∙ (append_assoc (a ++ (44 ∷ 32 ∷ [])) b (44 ∷ 32 ∷ (c ++ (62 ∷ []))) ∙ append_assoc a (44 ∷ 32 ∷ []) (b ++ (44 ∷ 32 ∷ (c ++ (62 ∷ [])))))))
-
-flat_vec : (n inner : List ℕ) → n ++ (60 ∷ (inner ++ (62 ∷ []))) ≡ ((n ++ (60 ∷ [])) ++ inner) ++ (62 ∷ [])
-flat_vec n inner = sym (append_assoc (n ++ (60 ∷ [])) inner (62 ∷ []) ∙ append_assoc n (60 ∷ []) (inner ++ (62 ∷ [])))
-
-flat_mat : (c r inner : List ℕ) → (c ++ (120 ∷ r)) ++ (60 ∷ (inner ++ (62 ∷ []))) ≡ ((((c ++ (120 ∷ [])) ++ r) ++ (60 ∷ [])) ++ inner) ++ (62 ∷ [])
-flat_mat c r inner = ap (λ w. w ++ (60 ∷ (inner ++ (62 ∷ [])))) (sym (append_assoc c (120 ∷ []) r)) ∙ flat_vec ((c ++ (120 ∷ [])) ++ r) inner
-
-storage_text : (w : List ℕ) (rules : RuleSet) (f : TexelFormat) (m : AccessMode) (rest : List ℕ) →
-    w ++ (60 ∷ (texel_text_by rules f ++ (44 ∷ 32 ∷ (access_text m ++ (62 ∷ rest))))) ≡ (w ++ (60 ∷ (((texel_text_by rules f ++ (44 ∷ 32 ∷ [])) ++ access_text m) ++ (62 ∷ [])))) ++ rest
-storage_text w rules f m rest = two_text w (texel_text_by rules f) (access_text m) rest ∙ ap (λ bytes. (w ++ (60 ∷ bytes)) ++ rest) (flat_two (texel_text_by rules f) (access_text m))
-
 texture_printed : (rules : RuleSet) (t : TextureType) (rest : List ℕ) → text (texture_tree rules (texture_name t) (parameters_of t)) rest ≡ texture_text_by rules t ++ rest
-texture_printed rules (x.Sampled1D s) rest = one_text (codes "texture_1d") (sampled_text s) rest
-texture_printed rules (x.Sampled2D s) rest = one_text (codes "texture_2d") (sampled_text s) rest
-texture_printed rules (x.Sampled2DArray s) rest = one_text (codes "texture_2d_array") (sampled_text s) rest
-texture_printed rules (x.Sampled3D s) rest = one_text (codes "texture_3d") (sampled_text s) rest
-texture_printed rules (x.SampledCube s) rest = one_text (codes "texture_cube") (sampled_text s) rest
-texture_printed rules (x.SampledCubeArray s) rest = one_text (codes "texture_cube_array") (sampled_text s) rest
-texture_printed rules (x.Sampled1DArray s) rest = one_text (codes "texture_1d_array") (sampled_text s) rest
-texture_printed rules (x.Multisampled2D s) rest = one_text (codes "texture_multisampled_2d") (sampled_text s) rest
-texture_printed rules (x.Multisampled2DArray s) rest = one_text (codes "texture_multisampled_2d_array") (sampled_text s) rest
-texture_printed rules (x.Storage1D f m) rest = storage_text (codes "texture_storage_1d") rules f m rest
-texture_printed rules (x.Storage1DArray f m) rest = storage_text (codes "texture_storage_1d_array") rules f m rest
-texture_printed rules (x.Storage2D f m) rest = storage_text (codes "texture_storage_2d") rules f m rest
-texture_printed rules (x.Storage2DArray f m) rest = storage_text (codes "texture_storage_2d_array") rules f m rest
-texture_printed rules (x.Storage3D f m) rest = storage_text (codes "texture_storage_3d") rules f m rest
+texture_printed rules (x.Sampled1D s) rest = simp append_assoc
+texture_printed rules (x.Sampled2D s) rest = simp append_assoc
+texture_printed rules (x.Sampled2DArray s) rest = simp append_assoc
+texture_printed rules (x.Sampled3D s) rest = simp append_assoc
+texture_printed rules (x.SampledCube s) rest = simp append_assoc
+texture_printed rules (x.SampledCubeArray s) rest = simp append_assoc
+texture_printed rules (x.Sampled1DArray s) rest = simp append_assoc
+texture_printed rules (x.Multisampled2D s) rest = simp append_assoc
+texture_printed rules (x.Multisampled2DArray s) rest = simp append_assoc
+texture_printed rules (x.Storage1D f m) rest = simp append_assoc
+texture_printed rules (x.Storage1DArray f m) rest = simp append_assoc
+texture_printed rules (x.Storage2D f m) rest = simp append_assoc
+texture_printed rules (x.Storage2DArray f m) rest = simp append_assoc
+texture_printed rules (x.Storage3D f m) rest = simp append_assoc
 texture_printed rules x.DepthMultisampled2D rest = refl
 texture_printed rules x.External rest = refl
 texture_printed rules x.Depth2D rest = refl
@@ -87,35 +45,22 @@ texture_printed rules x.DepthCubeArray rest = refl
 
 printed : (rules : RuleSet) (t : WgslType) (rest : List ℕ) → text (tree rules t) rest ≡ spelling_by rules t ++ rest
 printed rules (scalar s) rest = refl
-printed rules (array None t) rest = ap (λ bytes. codes "array" ++ (60 ∷ bytes)) (printed rules t (62 ∷ rest)) ∙ one_text (codes "array") (spelling_by rules t) rest
-printed rules (array (Some n) t) rest =
-    ap (λ bytes. codes "array" ++ (60 ∷ bytes)) (printed rules t (44 ∷ 32 ∷ (decimal n ++ (62 ∷ rest)))) ∙ (two_text (codes "array") (spelling_by rules t) (decimal n) rest ∙ ap (λ bytes. (codes "array" ++ (60 ∷ bytes)) ++ rest) (flat_two (spelling_by rules t) (decimal n)))
-printed rules (vec n t) rest =
-    ap (λ bytes. (codes "vec" ++ decimal n) ++ (60 ∷ bytes)) (printed rules t (62 ∷ rest)) ∙ (one_text (codes "vec" ++ decimal n) (spelling_by rules t) rest ∙ ap (λ bytes. (codes "vec" ++ bytes) ++ rest) (flat_vec (decimal n) (spelling_by rules t)))
-printed rules (mat c r t) rest =
-    let w = codes "mat" ++ (decimal c ++ (codes "x" ++ decimal r)) in
-    ap (λ bytes. w ++ (60 ∷ bytes)) (printed rules t (62 ∷ rest))
-    ∙ (one_text w (spelling_by rules t) rest ∙ ap (λ bytes. (codes "mat" ++ bytes) ++ rest) (flat_mat (decimal c) (decimal r) (spelling_by rules t)))
+printed rules (array None t) rest = rw (printed rules t (62 ∷ rest)) (simp append_assoc)
+printed rules (array (Some n) t) rest = rw (printed rules t (44 ∷ 32 ∷ (decimal n ++ (62 ∷ rest)))) (simp append_assoc)
+printed rules (vec n t) rest = rw (printed rules t (62 ∷ rest)) (simp append_assoc)
+printed rules (mat c r t) rest = ap (λ bytes. (codes "mat" ++ (decimal c ++ (codes "x" ++ decimal r))) ++ (60 ∷ bytes)) (printed rules t (62 ∷ rest)) ∙ simp append_assoc
 printed rules (struct w ms) rest = refl
-printed rules (atomic t) rest = ap (λ bytes. codes "atomic" ++ (60 ∷ bytes)) (printed rules t (62 ∷ rest)) ∙ one_text (codes "atomic") (spelling_by rules t) rest
-printed rules (pointer s t m) rest =
-    ap (λ bytes. codes "ptr" ++ (60 ∷ (space_text_by rules s ++ (44 ∷ 32 ∷ bytes)))) (printed rules t (44 ∷ 32 ∷ (access_text m ++ (62 ∷ rest))))
-    ∙ (three_text (codes "ptr") (space_text_by rules s) (spelling_by rules t) (access_text m) rest
-    ∙ ap (λ bytes. (codes "ptr" ++ (60 ∷ bytes)) ++ rest) (flat_three (space_text_by rules s) (spelling_by rules t) (access_text m)))
-printed rules (reference s t m) rest =
-    ap (λ bytes. codes "ref" ++ (60 ∷ (space_text_by rules s ++ (44 ∷ 32 ∷ bytes)))) (printed rules t (44 ∷ 32 ∷ (access_text m ++ (62 ∷ rest))))
-    ∙ (three_text (codes "ref") (space_text_by rules s) (spelling_by rules t) (access_text m) rest
-    ∙ ap (λ bytes. (codes "ref" ++ (60 ∷ bytes)) ++ rest) (flat_three (space_text_by rules s) (spelling_by rules t) (access_text m)))
+printed rules (atomic t) rest = rw (printed rules t (62 ∷ rest)) (simp append_assoc)
+printed rules (pointer s t m) rest = rw (printed rules t (44 ∷ 32 ∷ (access_text m ++ (62 ∷ rest)))) (simp append_assoc)
+printed rules (reference s t m) rest = rw (printed rules t (44 ∷ 32 ∷ (access_text m ++ (62 ∷ rest)))) (simp append_assoc)
 printed rules (texture t) rest = texture_printed rules t rest
 printed rules (sampler s) rest = refl
-printed rules (binding_array None t) rest =
-    ap (λ bytes. codes "binding_array" ++ (60 ∷ bytes)) (printed rules t (62 ∷ rest)) ∙ one_text (codes "binding_array") (spelling_by rules t) rest
-printed rules (binding_array (Some n) t) rest =
-    ap (λ bytes. codes "binding_array" ++ (60 ∷ bytes)) (printed rules t (44 ∷ 32 ∷ (decimal n ++ (62 ∷ rest)))) ∙ (two_text (codes "binding_array") (spelling_by rules t) (decimal n) rest ∙ ap (λ bytes. (codes "binding_array" ++ (60 ∷ bytes)) ++ rest) (flat_two (spelling_by rules t) (decimal n)))
+printed rules (binding_array None t) rest = rw (printed rules t (62 ∷ rest)) (simp append_assoc)
+printed rules (binding_array (Some n) t) rest = rw (printed rules t (44 ∷ 32 ∷ (decimal n ++ (62 ∷ rest)))) (simp append_assoc)
 printed rules (ray_query None) rest = refl
-printed rules (ray_query (Some f)) rest = one_text (codes "ray_query") (flag_text f) rest
+printed rules (ray_query (Some f)) rest = simp append_assoc
 printed rules (acceleration_structure None) rest = refl
-printed rules (acceleration_structure (Some f)) rest = one_text (codes "acceleration_structure") (flag_text f) rest
+printed rules (acceleration_structure (Some f)) rest = simp append_assoc
 
 -- no byte order mark stands in front
 
@@ -132,11 +77,10 @@ no_mark [] rest is = absurd (let e = is.letter in cc e)
 no_mark (b ∷ bs) rest is = mark_by b (bs ++ rest) (no_mark_byte b (both (is_in_ascii_name b) (list_all is_in_ascii_name bs) is.all).0)
 
 tree_mark : (t : Tree) → IsType t → IsGood t → mark_len (text t []) ≡ 0
-tree_mark (name w) (name_is v) good = no_mark w _ good
-tree_mark (one w a) (one_is v b) good = no_mark w _ good.0
-tree_mark (two w a b) (two_is v c d) good = no_mark w _ good.0
-tree_mark (three w a b c) (three_is v d e f) good = no_mark w _ good.0
-tree_mark (Rattle.wgsl_spelling.proofs.Trees.digits n) is good = elim is [ ]
+tree_mark (name w) is good = no_mark w _ good
+tree_mark (list w t) is good = no_mark w _ good.0
+tree_mark (digits n) is good = elim is [ ]
+tree_mark (parts a b) is good = elim is [ ]
 
 -- the whole
 
@@ -151,12 +95,12 @@ events_say rules t is shallow =
     let there = located tr whole [] [] 0 good at_end refl refl in
     let read = reads whole rules t 0 is shallow there in
     let final : State → Option Chain = end whole in
-    let all : behind whole (listed tr 0 []) nothing (events tr 0 []) ≡ then (eval whole tr 0 nothing.chain) (λ c. Some (state (made tr 0 ∷ []) c)) =
+    let all : behind whole (listed tr 0 []) nothing (events tr 0 []) ≡ then (eval whole tr 0 nothing.chain) (λ c. Some (state (stack tr 0 []) c)) =
     evaluated whole (listed tr 0 []) tr 0 0 nothing [] good there (placed tr (listed tr 0 []) [] [] 0 0 refl refl) in
     sym (
     ap (λ o. then (then o final) type_of) all
-    ∙ (ap (λ o. then (then (then o (λ c. Some (state (made tr 0 ∷ []) c))) final) type_of) read.evaluated
-    ∙ (ap (λ o. then o type_of) read.typed ∙ chain_type t is))
+    ∙ (ap (λ o. then (then (then o (λ c. Some (state (stack tr 0 []) c))) final) type_of) read.evaluated
+    ∙ (ap (λ items. then (final (state items read.after)) type_of) (on_top (tree_part rules t) 0 []) ∙ (ap (λ o. then o type_of) read.typed ∙ chain_type t is)))
     )
 
 tree_spells : (rules : RuleSet) (t : WgslType) → IsWritable t → layers t ≤ 255 → Spells (text (tree rules t) []) (Some t)

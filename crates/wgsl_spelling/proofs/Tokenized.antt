@@ -5,7 +5,7 @@ use Rattle.wgsl_reader.specs.declared.kind.Kind.TheVariants as k
 use Rattle.wgsl_reader.specs.declared.piece.Piece.TheVariants as p
 use Rattle.wgsl_spelling.proofs.TreeNumbers.{number_token, starts_number}
 use Rattle.wgsl_spelling.proofs.TreeTokens.{name_token}
-use Rattle.wgsl_spelling.proofs.Trees.{Ends, IsGood, IsName, Tree, comma, digits, greater, less, name, one, past, starts, text, three, token, tokens, two}
+use Rattle.wgsl_spelling.proofs.Trees.{Ends, IsGood, IsName, Tree, comma, digits, greater, less, list, name, parts, past, starts, text, token, tokens}
 
 -- signs
 
@@ -32,40 +32,18 @@ name_starts (b ∷ bs) rest is = ap (λ l. l || is_digit b) is.letter
 tree_starts : (t : Tree) (rest : List ℕ) → IsGood t → starts (text t rest) ≡ true
 tree_starts (name w) rest good = name_starts w rest good
 tree_starts (digits n) rest good = starts_number n rest good
-tree_starts (one w p) rest good = name_starts w _ good.0
-tree_starts (two w p q) rest good = name_starts w _ good.0
-tree_starts (three w p q r) rest good = name_starts w _ good.0
+tree_starts (list w t) rest good = name_starts w _ good.0
+tree_starts (parts a b) rest good = tree_starts a _ good.1
 
 pub tokenized : (t : Tree) (rest : List ℕ) (at : ℕ) (more : List Token) → IsGood t → Ends rest → tokens_from 0 (past t at) rest ≡ Ok more → tokens_from 0 at (text t rest) ≡ Ok (tokens k.Less k.Greater t at more)
 tokenized (name w) rest at more good ends behind = name_token w rest at more good ends behind
 tokenized (digits n) rest at more good ends behind = number_token n rest at more good ends behind
-tokenized (one w a) rest at more good ends behind =
+tokenized (list w t) rest at more good ends behind =
     let from = suc (at + length w) in
-    name_token w _ at _ good.0 (less (text a (62 ∷ rest)))
-    (sign k.Less 60 (text a (62 ∷ rest)) (at + length w) _ (less_is (text a (62 ∷ rest)) (tree_starts a (62 ∷ rest) good.1))
-    (tokenized a (62 ∷ rest) from _ good.1 (greater rest)
-    (sign k.Greater 62 rest (past a from) more refl behind)))
-tokenized (two w a b) rest at more good ends behind =
-    let from = suc (at + length w) in
-    let second = suc (suc (past a from)) in
-    let bytes = 44 ∷ 32 ∷ text b (62 ∷ rest) in
-    name_token w _ at _ good.0 (less (text a bytes))
-    (sign k.Less 60 (text a bytes) (at + length w) _ (less_is (text a bytes) (tree_starts a bytes good.1))
-    (tokenized a bytes from _ good.1 (comma (32 ∷ text b (62 ∷ rest)))
-    (sign k.Comma 44 (32 ∷ text b (62 ∷ rest)) (past a from) _ refl
-    (tokenized b (62 ∷ rest) second _ good.2 (greater rest)
-    (sign k.Greater 62 rest (past b second) more refl behind)))))
-tokenized (three w a b c) rest at more good ends behind =
-    let from = suc (at + length w) in
-    let second = suc (suc (past a from)) in
-    let third = suc (suc (past b second)) in
-    let last = 44 ∷ 32 ∷ text c (62 ∷ rest) in
-    let bytes = 44 ∷ 32 ∷ text b last in
-    name_token w _ at _ good.0 (less (text a bytes))
-    (sign k.Less 60 (text a bytes) (at + length w) _ (less_is (text a bytes) (tree_starts a bytes good.1))
-    (tokenized a bytes from _ good.1 (comma (32 ∷ text b last))
-    (sign k.Comma 44 (32 ∷ text b last) (past a from) _ refl
-    (tokenized b last second _ good.2 (comma (32 ∷ text c (62 ∷ rest)))
-    (sign k.Comma 44 (32 ∷ text c (62 ∷ rest)) (past b second) _ refl
-    (tokenized c (62 ∷ rest) third _ good.3 (greater rest)
-    (sign k.Greater 62 rest (past c third) more refl behind)))))))
+    name_token w _ at _ good.0 (less (text t (62 ∷ rest)))
+    (sign k.Less 60 (text t (62 ∷ rest)) (at + length w) _ (less_is (text t (62 ∷ rest)) (tree_starts t (62 ∷ rest) good.2))
+    (tokenized t (62 ∷ rest) from _ good.2 (greater rest)
+    (sign k.Greater 62 rest (past t from) more refl behind)))
+tokenized (parts a b) rest at more good ends behind =
+    tokenized a (44 ∷ 32 ∷ text b rest) at _ good.1 (comma (32 ∷ text b rest))
+    (sign k.Comma 44 (32 ∷ text b rest) (past a at) _ refl (tokenized b rest (suc (suc (past a at))) more good.2 ends behind))

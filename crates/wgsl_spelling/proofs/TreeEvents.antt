@@ -9,7 +9,7 @@ use Rattle.wgsl_reader.specs.declared.rule.Rule.TheVariants as r
 use Rattle.wgsl_reader.specs.declared.grammar.Symbol.{Symbol}
 use Rattle.wgsl_reader.specs.declared.grammar.Symbol.TheVariants as s
 use Rattle.wgsl_spelling.proofs.Listed.{listed}
-use Rattle.wgsl_spelling.proofs.Trees.{Tree, digits, name, one, three, two}
+use Rattle.wgsl_spelling.proofs.Trees.{IsType, Tree, digits, list, name, parts}
 
 abbrev pub event : Mark → ℕ → Event
 event mark at = record { mark = mark; at = at }
@@ -18,41 +18,30 @@ event mark at = record { mark = mark; at = at }
 abbrev pub kinds : Tree → List Kind → List Kind
 kinds (name w) more = k.Name ∷ more
 kinds (digits n) more = k.Number ∷ more
-kinds (one w a) more = k.Name ∷ k.OpenTemplate ∷ kinds a (k.CloseTemplate ∷ more)
-kinds (two w a b) more = k.Name ∷ k.OpenTemplate ∷ kinds a (k.Comma ∷ kinds b (k.CloseTemplate ∷ more))
-kinds (three w a b c) more = k.Name ∷ k.OpenTemplate ∷ kinds a (k.Comma ∷ kinds b (k.Comma ∷ kinds c (k.CloseTemplate ∷ more)))
+kinds (list w t) more = k.Name ∷ k.OpenTemplate ∷ kinds t (k.CloseTemplate ∷ more)
+kinds (parts a b) more = kinds a (k.Comma ∷ kinds b more)
 
 -- the number of tokens up to the end of a tree
 abbrev pub count : Tree → ℕ → ℕ
 count (name w) n = n + 1
 count (digits d) n = n + 1
-count (one w a) n = count a (n + 1 + 1) + 1
-count (two w a b) n = count b (count a (n + 1 + 1) + 1) + 1
-count (three w a b c) n = count c (count b (count a (n + 1 + 1) + 1) + 1) + 1
+count (list w t) n = count t (n + 1 + 1) + 1
+count (parts a b) n = count b (count a n + 1)
 
 -- what is noted behind a parameter: a name stands for a value
 abbrev pub valued : Tree → ℕ → List Event → List Event
 valued (name w) n more = event m.Value (n + 1) ∷ more
 valued (digits d) n more = more
-valued (one w a) n more = event m.Value (count (one w a) n) ∷ more
-valued (two w a b) n more = event m.Value (count (two w a b) n) ∷ more
-valued (three w a b c) n more = event m.Value (count (three w a b c) n) ∷ more
+valued (list w t) n more = event m.Value (count (list w t) n) ∷ more
+valued (parts a b) n more = valued b (count a n + 1) more
 
 -- the events of a tree, in front of others
 abbrev pub events : Tree → ℕ → List Event → List Event
 events (name w) n more = event m.Name (n + 1) ∷ more
 events (digits d) n more = event m.Literal (n + 1) ∷ more
-events (one w a) n more =
-    event m.Name (n + 1) ∷ event m.OpenTemplate (n + 1 + 1) ∷ events a (n + 1 + 1) (valued a (n + 1 + 1) (event m.Template (count (one w a) n) ∷ more))
-events (two w a b) n more =
-    let at_b = count a (n + 1 + 1) + 1 in
-    event m.Name (n + 1) ∷ event m.OpenTemplate (n + 1 + 1) ∷ events a (n + 1 + 1) (valued a (n + 1 + 1)
-    (events b at_b (valued b at_b (event m.Template (count (two w a b) n) ∷ more))))
-events (three w a b c) n more =
-    let at_b = count a (n + 1 + 1) + 1 in
-    let at_c = count b at_b + 1 in
-    event m.Name (n + 1) ∷ event m.OpenTemplate (n + 1 + 1) ∷ events a (n + 1 + 1) (valued a (n + 1 + 1)
-    (events b at_b (valued b at_b (events c at_c (valued c at_c (event m.Template (count (three w a b c) n) ∷ more))))))
+events (list w t) n more =
+    event m.Name (n + 1) ∷ event m.OpenTemplate (n + 1 + 1) ∷ events t (n + 1 + 1) (valued t (n + 1 + 1) (event m.Template (count (list w t) n) ∷ more))
+events (parts a b) n more = events a n (valued a n (events b (count a n + 1) more))
 
 -- what stands behind a parameter
 pub data Parts : Kind → Type 0 where
@@ -136,38 +125,23 @@ separated_tree : (t : Tree) (symbols : List Symbol) (n : ℕ) (ks : List Kind) (
     → ReadAt (s.Rule r.MoreTemplate ∷ symbols) n (k.Comma ∷ kinds t ks) o
 separated_tree (name w) symbols n ks o d = separated by_name symbols n ks o d
 separated_tree (digits v) symbols n ks o d = separated by_number symbols n ks o d
-separated_tree (one w a) symbols n ks o d = separated by_name symbols n _ o d
-separated_tree (two w a b) symbols n ks o d = separated by_name symbols n _ o d
-separated_tree (three w a b c) symbols n ks o d = separated by_name symbols n _ o d
+separated_tree (list w t) symbols n ks o d = separated by_name symbols n _ o d
+separated_tree (parts a b) symbols n ks o d = separated_tree a symbols n _ o d
 
-abbrev InList : List Symbol → List Symbol
-InList symbols = s.Rule r.MoreTemplate ∷ s.Token k.CloseTemplate ∷ s.Mark m.Template ∷ symbols
+-- parameters are expressions, of which more may stand behind
+pub parameter : (t : Tree) {kind : Kind} → Parts kind → (symbols : List Symbol) (n : ℕ) (ks : List Kind) (more : List Event) → ReadAt (s.Rule r.MoreTemplate ∷ symbols) (count t n) (kind ∷ ks) (Ok more)
+    → ReadAt (s.Rule r.Unary ∷ s.Rule r.Operators ∷ s.Rule r.MoreTemplate ∷ symbols) n (kinds t (kind ∷ ks)) (Ok (events t n (valued t n more)))
+parameter (name w) {kind} part symbols n ks more d = named _ n (kind ∷ ks) _ (alone part _ _ ks more (no_operator part _ _ ks _ d))
+parameter (digits v) {kind} part symbols n ks more d = numbered _ n (kind ∷ ks) more (rest_read part _ _ ks _ d)
+parameter (list w t) {kind} part symbols n ks more d =
+    let behind = BehindList (s.Rule r.MoreTemplate ∷ symbols) in
+    named _ n _ _ (with_list _ _ _ _ (opened behind (n + 1) _ _
+    (parameter t close (s.Token k.CloseTemplate ∷ s.Mark m.Template ∷ behind) (n + 1 + 1) (kind ∷ ks) _
+    (closed behind (count t (n + 1 + 1)) (kind ∷ ks) _ (no_call part _ _ ks more (rest_read part _ _ ks _ d))))))
+parameter (parts a b) {kind} part symbols n ks more d =
+    parameter a comma symbols n (kinds b (kind ∷ ks)) _ (separated_tree b symbols (count a n) (kind ∷ ks) _ (parameter b part symbols (count a n + 1) ks more d))
 
--- a tree is an expression
-pub parameter : (t : Tree) {kind : Kind} → Parts kind → (symbols : List Symbol) (n : ℕ) (ks : List Kind) (more : List Event) → ReadAt symbols (count t n) (kind ∷ ks) (Ok more)
-    → ReadAt (s.Rule r.Unary ∷ s.Rule r.Operators ∷ symbols) n (kinds t (kind ∷ ks)) (Ok (events t n (valued t n more)))
-parameter (name w) {kind} part symbols n ks more d = named symbols n (kind ∷ ks) _ (alone part _ _ ks more (no_operator part symbols _ ks _ d))
-parameter (digits v) {kind} part symbols n ks more d = numbered symbols n (kind ∷ ks) more (rest_read part symbols _ ks _ d)
-parameter (one w a) {kind} part symbols n ks more d =
-    named symbols n _ _ (with_list symbols _ _ _ (opened (BehindList symbols) (n + 1) _ _
-    (parameter a close (InList (BehindList symbols)) (n + 1 + 1) (kind ∷ ks) _
-    (closed (BehindList symbols) (count a (n + 1 + 1)) (kind ∷ ks) _ (no_call part _ _ ks more (rest_read part symbols _ ks _ d))))))
-parameter (two w a b) {kind} part symbols n ks more d =
-    named symbols n _ _ (with_list symbols _ _ _ (opened (BehindList symbols) (n + 1) _ _
-    (parameter a comma (InList (BehindList symbols)) (n + 1 + 1) (kinds b (k.CloseTemplate ∷ kind ∷ ks)) _
-    (separated_tree b _ (count a (n + 1 + 1)) (k.CloseTemplate ∷ kind ∷ ks) _
-    (parameter b close (InList (BehindList symbols)) (count a (n + 1 + 1) + 1) (kind ∷ ks) _
-    (closed (BehindList symbols) (count b (count a (n + 1 + 1) + 1)) (kind ∷ ks) _ (no_call part _ _ ks more (rest_read part symbols _ ks _ d))))))))
-parameter (three w a b c) {kind} part symbols n ks more d =
-    named symbols n _ _ (with_list symbols _ _ _ (opened (BehindList symbols) (n + 1) _ _
-    (parameter a comma (InList (BehindList symbols)) (n + 1 + 1) (kinds b (k.Comma ∷ kinds c (k.CloseTemplate ∷ kind ∷ ks))) _
-    (separated_tree b _ (count a (n + 1 + 1)) (k.Comma ∷ kinds c (k.CloseTemplate ∷ kind ∷ ks)) _
-    (parameter b comma (InList (BehindList symbols)) (count a (n + 1 + 1) + 1) (kinds c (k.CloseTemplate ∷ kind ∷ ks)) _
-    (separated_tree c _ (count b (count a (n + 1 + 1) + 1)) (k.CloseTemplate ∷ kind ∷ ks) _
-    (parameter c close (InList (BehindList symbols)) (count b (count a (n + 1 + 1) + 1) + 1) (kind ∷ ks) _
-    (closed (BehindList symbols) (count c (count b (count a (n + 1 + 1) + 1) + 1)) (kind ∷ ks) _ (no_call part _ _ ks more (rest_read part symbols _ ks _ d))))))))))
-
--- a tree that is no number is a type: the whole of the tokens
+-- a type is the whole of the tokens
 
 typed : (n : ℕ) (ks : List Kind) (more : List Event) → ReadAt (s.Rule r.Template ∷ []) (n + 1) ks (Ok more) → ReadAt (s.Rule r.Type ∷ []) n (k.Name ∷ ks) (Ok (event m.Name (n + 1) ∷ more))
 unfolding tables
@@ -177,36 +151,15 @@ ended : (n : ℕ) → ReadAt (s.Rule r.Template ∷ []) n [] (Ok [])
 unfolding tables
 ended n = rule_read refl (all_read n)
 
-pub data IsType : Tree → Type 0 where
-  name_is : (w : List ℕ) → IsType (name w)
-  one_is : (w : List ℕ) (a : Tree) → IsType (one w a)
-  two_is : (w : List ℕ) (a b : Tree) → IsType (two w a b)
-  three_is : (w : List ℕ) (a b c : Tree) → IsType (three w a b c)
-
 pub type_read : (t : Tree) → IsType t → ReadAt (s.Rule r.Type ∷ []) 0 (kinds t []) (Ok (events t 0 []))
 type_read (digits d) is = elim is [ ]
-type_read (name w) (name_is v) = typed 0 [] [] (ended 1)
-type_read (one w a) (one_is v x) =
-    typed 0 _ _ (opened [] 1 _ _
-    (parameter a close (InList []) 2 [] _ (closed [] (count a 2) [] [] (all_read _))))
-type_read (two w a b) (two_is v x y) =
-    typed 0 _ _ (opened [] 1 _ _
-    (parameter a comma (InList []) 2 (kinds b (k.CloseTemplate ∷ [])) _
-    (separated_tree b _ (count a 2) (k.CloseTemplate ∷ []) _
-    (parameter b close (InList []) (count a 2 + 1) [] _ (closed [] (count b (count a 2 + 1)) [] [] (all_read _))))))
-type_read (three w a b c) (three_is v x y z) =
-    typed 0 _ _ (opened [] 1 _ _
-    (parameter a comma (InList []) 2 (kinds b (k.Comma ∷ kinds c (k.CloseTemplate ∷ []))) _
-    (separated_tree b _ (count a 2) (k.Comma ∷ kinds c (k.CloseTemplate ∷ [])) _
-    (parameter b comma (InList []) (count a 2 + 1) (kinds c (k.CloseTemplate ∷ [])) _
-    (separated_tree c _ (count b (count a 2 + 1)) (k.CloseTemplate ∷ []) _
-    (parameter c close (InList []) (count b (count a 2 + 1) + 1) [] _ (closed [] (count c (count b (count a 2 + 1) + 1)) [] [] (all_read _))))))))
+type_read (parts a b) is = elim is [ ]
+type_read (name w) is = typed 0 [] [] (ended 1)
+type_read (list w t) is = typed 0 _ _ (opened [] 1 _ _ (parameter t close (s.Token k.CloseTemplate ∷ s.Mark m.Template ∷ []) 2 [] _ (closed [] (count t 2) [] [] (all_read _))))
 
 -- the kinds of the tokens with lists
 pub same_kinds : (t : Tree) (at : ℕ) (more : List Token) → map kind_of (listed t at more) ≡ kinds t (map kind_of more)
 same_kinds (name w) at more = refl
 same_kinds (digits d) at more = refl
-same_kinds (one w a) at more = ap (λ ks. k.Name ∷ k.OpenTemplate ∷ ks) (same_kinds a _ _)
-same_kinds (two w a b) at more = ap (λ ks. k.Name ∷ k.OpenTemplate ∷ ks) (same_kinds a _ _ ∙ ap (λ ks. kinds a (k.Comma ∷ ks)) (same_kinds b _ _))
-same_kinds (three w a b c) at more =
-    ap (λ ks. k.Name ∷ k.OpenTemplate ∷ ks) (same_kinds a _ _ ∙ ap (λ ks. kinds a (k.Comma ∷ ks)) (same_kinds b _ _ ∙ ap (λ ks. kinds b (k.Comma ∷ ks)) (same_kinds c _ _)))
+same_kinds (list w t) at more = ap (λ ks. k.Name ∷ k.OpenTemplate ∷ ks) (same_kinds t _ _)
+same_kinds (parts a b) at more = same_kinds a _ _ ∙ ap (λ ks. kinds a (k.Comma ∷ ks)) (same_kinds b _ _)

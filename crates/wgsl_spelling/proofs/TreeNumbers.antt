@@ -36,35 +36,19 @@ plain (suc n) fits = record { some = decimal_nonempty (suc n) fits; all = all_de
 
 -- the token
 
-ends_digits : {rest : List ℕ} → Ends rest → digits_len false rest ≡ 0
-ends_digits at_end = refl
-ends_digits (comma rest) = refl
-ends_digits (less rest) = refl
-ends_digits (greater rest) = refl
-
-ends_fraction : {rest : List ℕ} (some : Bool) → Ends rest → fraction_len false some rest ≡ 0
-ends_fraction some at_end = refl
-ends_fraction some (comma rest) = refl
-ends_fraction some (less rest) = refl
-ends_fraction some (greater rest) = refl
-
-ends_exponent : {rest : List ℕ} → Ends rest → exponent_len false rest ≡ 0
-ends_exponent at_end = refl
-ends_exponent (comma rest) = refl
-ends_exponent (less rest) = refl
-ends_exponent (greater rest) = refl
-
-ends_suffix : {rest : List ℕ} → Ends rest → decimal_suffix rest ≡ 0
-ends_suffix at_end = refl
-ends_suffix (comma rest) = refl
-ends_suffix (less rest) = refl
-ends_suffix (greater rest) = refl
+-- what stands behind belongs to no number
+ends_number : {rest : List ℕ} → Ends rest
+    → (digits_len false rest ≡ 0) × ((some : Bool) → fraction_len false some rest ≡ 0) × (exponent_len false rest ≡ 0) × (decimal_suffix rest ≡ 0)
+ends_number at_end = (refl, λ some. refl, refl, refl)
+ends_number (comma rest) = (refl, λ some. refl, refl, refl)
+ends_number (less rest) = (refl, λ some. refl, refl, refl)
+ends_number (greater rest) = (refl, λ some. refl, refl, refl)
 
 digit_of : (b : ℕ) → is_digit b ≡ true → is_digit_of false b ≡ true
 digit_of b e = rw e refl
 
 all_digits : (ds rest : List ℕ) → list_all is_digit ds ≡ true → Ends rest → digits_len false (ds ++ rest) ≡ length ds
-all_digits [] rest all ends = ends_digits ends
+all_digits [] rest all ends = (ends_number ends).0
 all_digits (b ∷ bs) rest all ends =
     let parts = both (is_digit b) (list_all is_digit bs) all in
     let one_up : 1 + prefix_len (is_digit_of false) (bs ++ rest) ≡ suc (prefix_len (is_digit_of false) (bs ++ rest)) = omega arith in
@@ -85,10 +69,11 @@ by_parts bytes whole w f x z s = rw (w, f, x, z, s) (omega arith)
 
 decimal_length : (ds rest : List ℕ) → Plain ds → Ends rest → decimal_len (ds ++ rest) ≡ length ds
 decimal_length ds rest is ends =
+    let none = ends_number ends in
     let gone : drop (length ds) (ds ++ rest) ≡ rest = dropped ds rest in
     let gone_too : drop (length ds + 0) (ds ++ rest) ≡ rest = ap (λ n. drop n (ds ++ rest)) (omega arith) ∙ gone in
-    by_parts (ds ++ rest) (length ds) (all_digits ds rest is.all ends) (ap (fraction_len false (nat_le 1 (length ds))) gone ∙ ends_fraction (nat_le 1 (length ds)) ends)
-    (ap (exponent_len false) gone_too ∙ ends_exponent ends) (no_zero ds rest is.right) (ap decimal_suffix gone ∙ ends_suffix ends)
+    by_parts (ds ++ rest) (length ds) (all_digits ds rest is.all ends) (ap (fraction_len false (nat_le 1 (length ds))) gone ∙ none.1 (nat_le 1 (length ds)))
+    (ap (exponent_len false) gone_too ∙ none.2) (no_zero ds rest is.right) (ap decimal_suffix gone ∙ none.3)
 
 second_digit : (a b : ℕ) → is_digit b ≡ true → is_hexadecimal a b ≡ false
 second_digit a b e = grind (arith, common_steps, e)

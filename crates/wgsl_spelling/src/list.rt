@@ -7,11 +7,10 @@ ghost use Rattle.wgsl_spelling.specs.Templates.{bitcast, bitcast_named, flag, is
 use crate::chain::Leaf;
 use crate::fault::{Cause, Expected, Stop, stop_at};
 use crate::item::{Item, Value};
-use crate::name::{access_named, format_named, space_named};
+use crate::name::{access_named, flag_named, format_named, sampled_named, space_named};
 use crate::predeclared::{LayerName, PredeclaredType, predeclared};
 use crate::value::count;
 use crate::word::word;
-use std::str::FromStr;
 use wgsl_constants::call::Function;
 use wgsl_reader::kind::Kind;
 use wgsl_reader::token::Token;
@@ -203,9 +202,9 @@ fn flag(text: &str, list: TemplateList) -> Result<AccelerationStructureFlags, St
     let Parameters::One(flag) = list.parameters else {
         return Err(stop_at(list.name.at, Cause::WrongParameterCount));
     };
-    match AccelerationStructureFlags::from_str(name(text, flag)) {
-        Ok(found) => Ok(found),
-        Err(_) => Err(stop_at(flag.token.at, Cause::Expected(Expected::Flag))),
+    match flag_named(name(text, flag)) {
+        Some(found) => Ok(found),
+        None => Err(stop_at(flag.token.at, Cause::Expected(Expected::Flag))),
     }
 }
 
@@ -239,9 +238,9 @@ fn format_of(text: &str, item: Item) -> Result<TexelFormat, Stop>
 fn sampled_of(text: &str, item: Item) -> Result<SampledType, Stop>
     ensures { Gives (λ found. found) (sampled_named (name text.now item)) result }
 {
-    match SampledType::from_str(name(text, item)) {
-        Ok(sampled) => Ok(sampled),
-        Err(_) => Err(stop_at(item.token.at, Cause::Expected(Expected::SampledType))),
+    match sampled_named(name(text, item)) {
+        Some(sampled) => Ok(sampled),
+        None => Err(stop_at(item.token.at, Cause::Expected(Expected::SampledType))),
     }
 }
 

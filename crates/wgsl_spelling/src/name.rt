@@ -1,11 +1,13 @@
 // Values of enumerations by their names.
 ghost use Rattle.std.specs.Prelude.{◌≡◌};
-ghost use Rattle.wgsl_spelling.specs.Names.{access_named, format_named, space_named};
+ghost use Rattle.wgsl_spelling.specs.Names.{access_named, flag_named, format_named, sampled_named, space_named};
 
 use std::str::FromStr;
 use wgsl_syntax::address::{AccessMode, AddressSpace};
+use wgsl_syntax::attribute::AccelerationStructureFlags;
 use wgsl_syntax::rules::RuleSet;
 use wgsl_syntax::texel::TexelFormat;
+use wgsl_syntax::texture::SampledType;
 
 /// `storage`
 #[tactic(auto, using(crate::proofs::Names::space_is))]
@@ -20,10 +22,23 @@ pub fn space_named(name: &str) -> Option<AddressSpace>
 pub fn access_named(name: &str) -> Option<AccessMode>
     ensures { result ≡ access_named name.now }
 {
-    match AccessMode::from_str(name) {
-        Ok(access) => Some(access),
-        Err(_) => None,
-    }
+    AccessMode::from_str(name).ok()
+}
+
+/// `f32`
+#[tactic(auto, using(crate::proofs::Names::sampled_is))]
+pub fn sampled_named(name: &str) -> Option<SampledType>
+    ensures { result ≡ sampled_named name.now }
+{
+    SampledType::from_str(name).ok()
+}
+
+/// `vertex_return`
+#[tactic(auto, using(crate::proofs::Names::flag_is))]
+pub fn flag_named(name: &str) -> Option<AccelerationStructureFlags>
+    ensures { result ≡ flag_named name.now }
+{
+    AccelerationStructureFlags::from_str(name).ok()
 }
 
 /// `rgba8unorm`

@@ -77,13 +77,11 @@ pub fn predeclared(name: &str) -> Option<PredeclaredType>
     }
 }
 
+#[tactic(auto, using(crate::proofs::Names::scalar_is))]
 fn scalar_named(name: &str) -> Option<Scalar>
     ensures { result ≡ named (table scalar_text scalars) name.now }
 {
-    match Scalar::from_str(name) {
-        Ok(scalar) => Some(scalar),
-        Err(_) => None,
-    }
+    Scalar::from_str(name).ok()
 }
 
 /// The meaning of a vector's or a matrix's name, or of a name without a number.
