@@ -1,10 +1,7 @@
 //! Conversions, ranks, common types, and the candidates that are chosen for operators.
 
-mod asked;
-mod tables;
-
-use asked::types;
-use tables::rows;
+use crate::asked::types;
+use crate::tables::rows;
 use wgsl_types_proved::builtin::binary_candidate;
 use wgsl_types_proved::conv::{
     convert, convert_all, convert_all_inner_to, convert_all_to, convert_all_ty, convert_inner,

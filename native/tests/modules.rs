@@ -1,9 +1,7 @@
 //! The check of modules: each of `tests/modules/modules.txt` is allowed, or refused by the rule that it names. What is `left out`
 //! or concerns `uniformity` may be allowed.
 
-mod tables;
-
-use tables::rows;
+use crate::tables::rows;
 use wgsl_types_proved::module::{check, Fault};
 
 /// The rules that the grammar keeps, whatever the list calls them.

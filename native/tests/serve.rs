@@ -4,12 +4,11 @@
 #[allow(dead_code)]
 #[macro_use]
 mod json;
-mod random;
 mod serving;
-mod tables;
 
+use crate::random::Random;
+use crate::tables::rows;
 use json::Json;
-use random::Random;
 use serving::{at, framed, opened, range, Client};
 use std::fs;
 use std::io::Write;
@@ -69,7 +68,7 @@ fn shown(answer: &Json, text: &str) -> String {
 fn requests_are_answered() {
     let mut client = Client::of_bytes();
     let mut wrong = Vec::new();
-    for [name, method, cursor, answer] in tables::rows::<4>("tables/served.tsv") {
+    for [name, method, cursor, answer] in rows::<4>("tables/served.tsv") {
         let mut text = shader(&name);
         let plain = cursor.replace('‸', "");
         let (found, written) = cursor.split_once(" => ").unwrap_or((&plain, &cursor));
@@ -150,7 +149,7 @@ fn many_faults_are_cut() {
 /// A client is sent what it can read and asks for, by the parameters of its `initialize`.
 #[test]
 fn clients_have_options() {
-    for [params, text, asked, answers] in tables::rows::<4>("tables/clients.tsv") {
+    for [params, text, asked, answers] in rows::<4>("tables/clients.tsv") {
         let mut client = Client::spawn();
         let reply = client.request("initialize", Json::read(&params).unwrap());
         client.open("a", &text);
@@ -192,7 +191,7 @@ fn sent(cell: &str) -> Vec<u8> {
 #[test]
 fn the_protocol_is_kept() {
     let mut wrong = Vec::new();
-    for [cell, answers, status] in tables::rows::<3>("tables/protocol.tsv") {
+    for [cell, answers, status] in rows::<3>("tables/protocol.tsv") {
         let mut client = Client::spawn();
         client.write(&sent(&cell));
         let (messages, found) = client.rest();
@@ -256,7 +255,7 @@ fn a_long_document_is_served() {
 /// The words behind `wgsl`, the input, the status, how the output begins, and what is told of an error.
 #[test]
 fn arguments_are_read() {
-    for [words, input, status, output, told] in tables::rows::<5>("tables/serve.tsv") {
+    for [words, input, status, output, told] in rows::<5>("tables/serve.tsv") {
         let mut program = Command::new(env!("CARGO_BIN_EXE_wgsl"));
         program.args(words.split(' ')).stdin(Stdio::piped()).stdout(Stdio::piped());
         let mut child = program.stderr(Stdio::piped()).spawn().unwrap();

@@ -1,7 +1,6 @@
 //! Types and literals as WGSL spells them: what is read, and what is refused where.
 
-mod tables;
-
+use crate::tables;
 use wgsl_types_proved::reader::tokens;
 use wgsl_types_proved::requests::standard_answer;
 use wgsl_types_proved::source::{layouts, types};

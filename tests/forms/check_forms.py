@@ -34,7 +34,7 @@ def check_forms(folder):
     if faults:
         fail("\n".join(faults))
     asked = "".join(f"{request}\t{answer(request)}\n" for request in random_requests(COUNT))
-    cargo(folder, "test", "--quiet", "--test", "forms", QUESTIONS=write(asked, folder, "questions.txt"))
+    cargo(folder, "test", "--quiet", "--test", "tests", "forms::", QUESTIONS=write(asked, folder, "questions.txt"))
     print(f"the rules in tests/forms answer {len(questions())} questions as a browser does, and the crate {COUNT} random ones alike")
 
 

@@ -1,7 +1,5 @@
 //! Reads requests in WGSL, as the tests write them: operands are types, and no blank is missing. Beyond WGSL a struct stands
 //! with its members where a type does, and vectors and matrices have any numbers of components.
-// Each test that has this module uses a part of it.
-#![allow(dead_code)]
 
 use std::collections::HashMap;
 use std::fmt::Debug;
