@@ -30,4 +30,6 @@ export function showKept(parent, shown, wanted) {
   return made;
 }
 
-export const counted = (n, word) => `${n.toLocaleString("en")} ${word}${n === 1 ? "" : "s"}`;
+/** A number as English writes it, by one formatter: `toLocaleString` looks for it anew. */
+export const { format: number } = new Intl.NumberFormat("en");
+export const counted = (n, word) => `${number(n)} ${word}${n === 1 ? "" : "s"}`;
