@@ -73,15 +73,7 @@ fn check(texts: impl IntoIterator<Item = String>) {
     assert!(wrong.is_empty(), "{} texts: {shown:#?}", wrong.len());
 }
 
-#[test]
-fn texts_are_read_or_refused() {
-    let texts = rows("grammar/texts.txt");
-    assert!(texts.len() > 2500);
-    for [verdict, text] in texts {
-        assert_eq!(told_of_file(&text).is_empty(), verdict == "read", "{text}");
-    }
-}
-
+/// So a text has errors if the grammar refuses it, as `reader` tests of each.
 #[test]
 fn errors_stand_where_the_grammar_stops() {
     check(rows("grammar/texts.txt").into_iter().map(|[_, text]| text));

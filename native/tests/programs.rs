@@ -32,10 +32,11 @@ fn end<S: AsRef<OsStr>>(words: &[S], input: &[u8]) -> (Option<i32>, String, Stri
 
 /// Whether a text is what a cell says.
 fn is_told(text: &str, cell: &str) -> bool {
-    match cell.strip_suffix("..") {
-        Some("") => true,
-        Some(front) => text.starts_with(front) && text.lines().count() == 1,
+    match cell.split_once("..") {
         None => text == cell,
+        Some(("", "")) => true,
+        Some((front, "")) => text.starts_with(front) && text.lines().count() == 1,
+        Some((front, behind)) => text.starts_with(front) && text.ends_with(behind),
     }
 }
 

@@ -13,6 +13,7 @@ fn is_read(text: &str) -> bool {
 #[test]
 fn texts_are_read_or_refused() {
     let rows = rows::<2>("grammar/texts.txt");
+    assert!(rows.len() > 2500);
     let wrong: Vec<_> =
         rows.iter().filter(|[verdict, text]| is_read(text) != (verdict == "read")).collect();
     assert!(wrong.is_empty(), "{} of {}: {wrong:#?}", wrong.len(), rows.len());

@@ -11,9 +11,7 @@ use crate::tables::rows;
 use json::Json;
 use serving::{at, framed, opened, range, Client};
 use std::fs;
-use std::io::Write;
 use std::ops::Range;
-use std::process::{Command, Stdio};
 use wgsl_types_proved::module::check;
 use wgsl_types_proved::predeclared::attributes;
 
@@ -250,26 +248,6 @@ fn a_long_document_is_served() {
     client.change("a", 2, None, "");
     assert_eq!(client.faults()["version"], 2.into());
     assert_eq!(client.end(), Some(0));
-}
-
-/// The words behind `wgsl`, the input, the status, how the output begins, and what is told of an error.
-#[test]
-fn arguments_are_read() {
-    for [words, input, status, output, told] in rows::<5>("tables/serve.tsv") {
-        let mut program = Command::new(env!("CARGO_BIN_EXE_wgsl"));
-        program.args(words.split(' ')).stdin(Stdio::piped()).stdout(Stdio::piped());
-        let mut child = program.stderr(Stdio::piped()).spawn().unwrap();
-        let _ = child.stdin.take().unwrap().write_all(input.as_bytes());
-        let done = child.wait_with_output().unwrap();
-        let [printed, notes] = [done.stdout, done.stderr].map(|it| String::from_utf8(it).unwrap());
-        assert_eq!(done.status.code().map(|code| code.to_string()), Some(status), "{words}");
-        assert!(printed.starts_with(&output), "{words}: {printed}");
-        assert_eq!(printed.is_empty(), output.is_empty(), "{words}: {printed}");
-        assert_eq!(notes.trim_end(), told, "{words}");
-        let is_help = words.starts_with("serve") && !output.is_empty();
-        assert_eq!(printed.contains("2 for wrong arguments."), is_help, "{printed}");
-        assert_eq!(printed.contains("serve"), !output.is_empty(), "{printed}");
-    }
 }
 
 /// Each attribute is offered somewhere.
