@@ -67,15 +67,20 @@ class Reader:
             return text + more, 2
         return text, 1
 
+    def one_binary(self, operators, left, right):
+        """The operator of a rule that comes next with what stands right of it, or else the left operand alone."""
+        text, count = self.operator()
+        if text not in operators:
+            return left
+        at = self.next()[1]
+        self.taken += count
+        return Node(at, "binary", text, [left, right()])
+
     def binary(self, operators, left, right):
-        """Operators of a rule with what stands right of each, as long as they come."""
-        while True:
-            text, count = self.operator()
-            if text not in operators:
-                return left
-            at = self.next()[1]
-            self.taken += count
-            left = Node(at, "binary", text, [left, right()])
+        """Such operators, as long as they come."""
+        while (found := self.one_binary(operators, left, right)) is not left:
+            left = found
+        return left
 
     def whole(self):
         expression = self.expression()
@@ -95,21 +100,10 @@ class Reader:
         return left
 
     def relational(self, first):
-        left = self.shift(first)
-        text, count = self.operator()
-        if text not in RELATIONAL:
-            return left
-        at = self.next()[1]
-        self.taken += count
-        return Node(at, "binary", text, [left, self.shift(self.unary())])
+        return self.one_binary(RELATIONAL, self.shift(first), lambda: self.shift(self.unary()))
 
     def shift(self, first):
-        text, count = self.operator()
-        if text not in ("<<", ">>"):
-            return self.additive(first)
-        at = self.next()[1]
-        self.taken += count
-        return Node(at, "binary", text, [first, self.unary()])
+        return self.one_binary(("<<", ">>"), first, self.unary) if self.operator()[0] in ("<<", ">>") else self.additive(first)
 
     def additive(self, first):
         return self.binary(("+", "-"), self.multiplicative(first), lambda: self.multiplicative(self.unary()))
