@@ -1,8 +1,6 @@
 //! Types the statements of a small shader by WGSL's rules. It decides only names, literals and scopes itself.
 
-use std::collections::HashMap;
-use std::error::Error;
-use std::fmt;
+use std::{collections::HashMap, error::Error, fmt};
 use wgsl_types_proved::standard::{
     address_of, assign, assign_by, construct, increment, indirection, initialized_variable,
     is_function, type_binary_op, type_builtin_fn, type_ctor, type_of_index, type_of_member,

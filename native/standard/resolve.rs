@@ -7,9 +7,7 @@ use crate::proved::wgsl_standard::callee::{can_be_const_expression, overloads};
 use crate::proved::wgsl_standard::operand::Operand as Asked;
 use crate::proved::wgsl_standard::substitution::built;
 use crate::proved::wgsl_standard::{answer, resolved};
-use crate::shim::always;
-use crate::shim::settled;
-use crate::shim::std::alloc::Global;
+use crate::shim::{always, settled, std::alloc::Global};
 use crate::syntax::{BinaryOperator, UnaryOperator};
 use crate::ty::Type;
 
@@ -18,8 +16,7 @@ type Answer<T> = Result<T, Fail<answer::NoOverload>>;
 /// What a binary expression resolves to.
 ///
 /// ```
-/// use wgsl_types_proved::standard::{resolve_binary_op, Operand};
-/// use wgsl_types_proved::syntax::BinaryOperator::Multiplication;
+/// use wgsl_types_proved::{standard::{resolve_binary_op, Operand}, syntax::BinaryOperator::Multiplication};
 /// use wgsl_types_proved::Type;
 ///
 /// let matrix = Operand::new(Type::matrix(2, 3, Type::F32));
@@ -40,8 +37,7 @@ pub fn resolve_binary_op(
 /// [`indirection`](super::indirection).
 ///
 /// ```
-/// use wgsl_types_proved::standard::{resolve_unary_op, Operand};
-/// use wgsl_types_proved::syntax::UnaryOperator::LogicalNegation;
+/// use wgsl_types_proved::{standard::{resolve_unary_op, Operand}, syntax::UnaryOperator::LogicalNegation};
 /// use wgsl_types_proved::Type;
 ///
 /// let negated = resolve_unary_op(LogicalNegation, &Operand::new(Type::Bool)).unwrap();
@@ -57,8 +53,7 @@ pub fn resolve_unary_op(
 /// What a call of a built-in function resolves to. The template is that of `bitcast<T>(..)`.
 ///
 /// ```
-/// use wgsl_types_proved::standard::{resolve_builtin_fn, Operand};
-/// use wgsl_types_proved::Type;
+/// use wgsl_types_proved::{standard::{resolve_builtin_fn, Operand}, Type};
 ///
 /// let arguments = [Type::AbstractInt, Type::F32, Type::AbstractFloat].map(Operand::new);
 /// let clamp = resolve_builtin_fn("clamp", None, &arguments).unwrap();
@@ -76,8 +71,7 @@ pub fn resolve_builtin_fn(
 /// the constructor of any type see [`construct`](super::construct()): those of arrays and structs have no overloads.
 ///
 /// ```
-/// use wgsl_types_proved::standard::{resolve_ctor, Operand};
-/// use wgsl_types_proved::Type;
+/// use wgsl_types_proved::{standard::{resolve_ctor, Operand}, Type};
 ///
 /// let arguments = [Operand::new(Type::vector(2, Type::F32)), Operand::new(Type::AbstractInt)];
 /// let vector = resolve_ctor("vec3", None, &arguments).unwrap();
@@ -97,9 +91,7 @@ pub fn resolve_ctor(
 /// A binary expression, without what its operands convert to. It is a const-expression if both operands are.
 ///
 /// ```
-/// use wgsl_types_proved::standard::{type_binary_op, Operand};
-/// use wgsl_types_proved::syntax::BinaryOperator::Addition;
-/// use wgsl_types_proved::Type;
+/// use wgsl_types_proved::{standard::{type_binary_op, Operand}, syntax::BinaryOperator::Addition, Type};
 ///
 /// let (one, x) = (Operand::new(Type::AbstractInt), Operand::new(Type::F32));
 /// assert_eq!(type_binary_op(Addition, &one, &x), Ok(x));
@@ -121,9 +113,7 @@ pub fn type_binary_op(
 /// [`address_of`](super::address_of) and [`indirection`](super::indirection).
 ///
 /// ```
-/// use wgsl_types_proved::standard::{type_unary_op, Operand};
-/// use wgsl_types_proved::syntax::UnaryOperator::Negation;
-/// use wgsl_types_proved::Type;
+/// use wgsl_types_proved::{standard::{type_unary_op, Operand}, syntax::UnaryOperator::Negation, Type};
 ///
 /// let vector = Operand::new(Type::vector(3, Type::F32));
 /// assert_eq!(type_unary_op(Negation, &vector), Ok(vector));
@@ -137,8 +127,7 @@ pub fn type_unary_op(operator: UnaryOperator, operand: &Operand) -> Result<Opera
 /// subgroup and quad operations, textures, atomics, `arrayLength` and `workgroupUniformLoad` never are.
 ///
 /// ```
-/// use wgsl_types_proved::standard::{type_builtin_fn, Operand};
-/// use wgsl_types_proved::Type;
+/// use wgsl_types_proved::{standard::{type_builtin_fn, Operand}, Type};
 ///
 /// let two = [Operand::new(Type::AbstractInt)];
 /// assert_eq!(type_builtin_fn("sqrt", None, &two), Ok(Some(Operand::new(Type::AbstractFloat))));
@@ -160,8 +149,7 @@ pub fn type_builtin_fn(
 /// are. For the constructor of any type see [`construct`](super::construct()): those of arrays and structs have no overloads.
 ///
 /// ```
-/// use wgsl_types_proved::standard::{type_ctor, Operand};
-/// use wgsl_types_proved::Type;
+/// use wgsl_types_proved::{standard::{type_ctor, Operand}, Type};
 ///
 /// let one = [Operand::new(Type::AbstractInt)];
 /// let ones = Operand::constant(Type::vector(3, Type::F16));

@@ -1,7 +1,6 @@
 //! Conversions, ranks, common types, and the candidates that are chosen for operators.
 
-use crate::asked::types;
-use crate::tables::rows;
+use crate::{asked::types, tables::rows};
 use wgsl_types_proved::builtin::binary_candidate;
 use wgsl_types_proved::conv::{
     convert, convert_all, convert_all_inner_to, convert_all_to, convert_all_ty, convert_inner,

@@ -1,7 +1,6 @@
 //! WGSL files are read by WGSL's grammar: what it refuses is an error where it stops, and there is no other error of that kind.
 
-use crate::random::Random;
-use crate::tables::rows;
+use crate::{random::Random, tables::rows};
 use wgsl_types_proved::reader::{expected_at, read_module, tokens, Kind, Misread, Token};
 use wgsl_types_proved::source::layouts;
 

@@ -3,13 +3,10 @@
 
 use crate::asked::{reply, types, Asked};
 use crate::tables::rows;
-use std::collections::HashMap;
-use std::{env, fs};
-use wgsl_types_proved::mem::StructLayout;
-use wgsl_types_proved::standard::*;
-use wgsl_types_proved::syntax::AddressSpace;
-use wgsl_types_proved::ty::StructType;
-use wgsl_types_proved::Type;
+use std::{collections::HashMap, env, fs};
+use wgsl_types_proved::{
+    mem::StructLayout, standard::*, syntax::AddressSpace, ty::StructType, Type,
+};
 
 #[test]
 fn questions_are_answered() {

@@ -6,14 +6,11 @@
 mod json;
 mod serving;
 
-use crate::random::Random;
-use crate::tables::rows;
+use crate::{random::Random, tables::rows};
 use json::Json;
 use serving::{at, framed, opened, range, Client};
-use std::fs;
-use std::ops::Range;
-use wgsl_types_proved::module::check;
-use wgsl_types_proved::predeclared::attributes;
+use std::{fs, ops::Range};
+use wgsl_types_proved::{module::check, predeclared::attributes};
 
 fn shader(name: &str) -> String {
     fs::read_to_string(format!("tests/sourced/{name}.wgsl")).expect(name)

@@ -1,7 +1,6 @@
 //! Types from their spellings, and the layouts of a file.
 
-use crate::random::Random;
-use crate::tables::rows;
+use crate::{random::Random, tables::rows};
 use wgsl_types_proved::source::{code, layouts, types, Language, Message};
 use wgsl_types_proved::Type;
 

@@ -1,7 +1,6 @@
 //! WGSL's own overloads: the results of calls print as the answers to the same requests.
 
-use crate::asked::reply;
-use crate::random::Random;
+use crate::{asked::reply, random::Random};
 use std::collections::BTreeSet;
 use wgsl_types_proved::builtin::is_ctor;
 use wgsl_types_proved::requests::standard_answer;

@@ -1,7 +1,6 @@
 //! Templates one by one: what each makes of its parameters, and each of its refusals, as `tests/tables/templates.tsv` says.
 
-use crate::asked::parameters;
-use crate::tables::rows;
+use crate::{asked::parameters, tables::rows};
 use wgsl_types_proved::tplt::{ArrayTemplate, AtomicTemplate, BindingArrayTemplate};
 use wgsl_types_proved::tplt::{BitcastTemplate, MatTemplate, PtrTemplate};
 use wgsl_types_proved::tplt::{TextureTemplate, TpltParam, VecTemplate};
