@@ -1,6 +1,6 @@
 // A struct: its map, and the table of its members; or why it has no layout.
 import { colored } from "page/colors.js";
-import { coded, h, number } from "page/dom.js";
+import { coded, h, measured, number } from "page/dom.js";
 import { ByteMap, bytes, hueOf } from "page/map.js";
 import { rowCount } from "page/pieces.js";
 import { problem } from "page/problems.js";
@@ -10,15 +10,13 @@ const EAGER_CARDS = 3; // new ones that are filled at once, so that none is seen
 const contents = new WeakMap(); // of cards: a key, and how it is made
 
 // Other cards are filled when they come near to the window. What one had before stays until then if it is near, and goes if not.
-const cardsNear = new IntersectionObserver((entries) => {
-  const start = performance.now();
+const cardsNear = new IntersectionObserver(measured("cards", (entries) => {
   for (const { isIntersecting, target } of entries) {
     if (isIntersecting) fill(target);
     else target.replaceChildren();
   }
-  performance.measure("cards", { start });
   whenFilled();
-}, { rootMargin: "100%" });
+}), { rootMargin: "100%" });
 let whenFilled = () => {};
 
 /** Fills a card when it is near. One that is observed already is told of once more. */

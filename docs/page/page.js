@@ -5,7 +5,7 @@ import { answersIn, answersTo } from "page/calculator.js";
 import { fillCards, hasKey, newBrokenCard, newCard, newNote, spaceOf, typed } from "page/card.js";
 import { check, last, namesShader, problemsOf } from "page/checked.js";
 import { colored } from "page/colors.js";
-import { at, counted, h, number, showKept, source } from "page/dom.js";
+import { at, counted, h, measured, number, showKept, source } from "page/dom.js";
 import { showColors, showHints } from "page/editor.js";
 import { examples, tries } from "page/examples.js";
 import { tellCaret, watch } from "page/pointed.js";
@@ -21,15 +21,13 @@ const DRAWN_AT_ONCE = 4; // cards
 let isNew = true, wasBroken = false; // an example, or a text of an address; the text of the cards
 
 /** Shows what was found in a text. What it lays out waits for the newest one. */
-function whenChecked(isNewest) {
-  const start = performance.now();
+const whenChecked = measured("checked", (isNewest) => {
   tellProblems();
   tellCounts();
   showHints();
   if (isAboutShader || namesShader(request.value, source.value)) ask();
   if (isNewest) draw();
-  performance.measure("checked", { start });
-}
+});
 
 /** What is wrong: what was found last, where it stands now. */
 function tellProblems() {
@@ -53,7 +51,7 @@ function draw() {
   const wanted = wantedCards(), others = wanted.filter(({ id, key }) => !(cards.has(id) && hasKey(cards.get(id), key))).length;
   const isLater = !isNew && (wasBroken || last.isBroken || others > DRAWN_AT_ONCE);
   [isNew, wasBroken, codeIsOld] = [false, last.isBroken, true];
-  if (isLater) drawTimer = setTimeout(drawLater, DRAWN_AFTER);
+  if (isLater) drawTimer = setTimeout(measured("draw", () => drawAll()), DRAWN_AFTER);
   else drawAll(wanted);
 }
 
@@ -63,14 +61,8 @@ function drawAll(wanted = wantedCards()) {
   showVariables();
   at("code").hidden = last.structs.length === 0;
   showTabs();
-  if (codeIsNear) drawTimer = setTimeout(writeCode, DRAWN_AFTER);
+  if (codeIsNear) drawTimer = setTimeout(measured("code", writeCode), DRAWN_AFTER);
   fillCards(wanted.map((one) => ({ ...one, card: cards.get(one.id) })), () => ((drawn = text), tellDrawn()));
-}
-
-function drawLater() {
-  const start = performance.now();
-  drawAll();
-  performance.measure("draw", { start });
 }
 
 /** Says that all that is near shows what is of the text, and first that the page works. */
@@ -150,11 +142,9 @@ function showTabs() {
 }
 
 function writeCode() {
-  const start = performance.now();
   codeIsOld = false;
   at("code-text").replaceChildren(...colored(codeOf(source.value)));
   tellDrawn();
-  performance.measure("code", { start });
 }
 
 /** The code of what the text lays out, errors or not. */
@@ -226,19 +216,13 @@ function save() {
 let isDue = false, drawTimer = 0;
 
 function changed() {
-  if (!isDue) requestAnimationFrame(update);
+  if (!isDue) requestAnimationFrame(measured("update", read));
   isDue = true;
   save();
 }
 
-function update() {
-  const start = performance.now();
-  isDue = false;
-  read();
-  performance.measure("update", { start });
-}
-
 function read() {
+  isDue = false;
   clearTimeout(drawTimer);
   delete document.documentElement.dataset.checked;
   showColors();

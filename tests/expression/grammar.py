@@ -26,6 +26,11 @@ class NoExpression(Exception):
     """A text that is no expression."""
 
 
+def ensure(is_one):
+    if not is_one:
+        raise NoExpression
+
+
 class Node:
     """A part of an expression: the index of its first byte, what it is, and its parts."""
 
@@ -40,8 +45,7 @@ def literal(text):
 class Reader:
     def __init__(self, text):
         found = [(m.group(), m.start(), m.lastgroup) for m in TOKEN.finditer(text)]
-        if any(kind == "open" for _, _, kind in found):
-            raise NoExpression
+        ensure(not any(kind == "open" for _, _, kind in found))
         self.tokens = [token for token in found if token[2] != "comment"]
         self.taken = 0
 
@@ -56,8 +60,7 @@ class Reader:
         return None
 
     def expect(self, text):
-        if not self.take(text):
-            raise NoExpression
+        ensure(self.take(text))
 
     def operator(self):
         """The binary operator that comes next, and how many tokens it has."""
@@ -84,8 +87,7 @@ class Reader:
 
     def whole(self):
         expression = self.expression()
-        if self.taken < len(self.tokens):
-            raise NoExpression
+        ensure(self.taken >= len(self.tokens))
         return expression
 
     def expression(self):
@@ -126,8 +128,7 @@ class Reader:
                 x = Node(bracket[1], "index", None, [x, index])
             elif self.take("."):
                 text, at, kind = self.next()
-                if kind != "name":
-                    raise NoExpression
+                ensure(kind == "name")
                 self.taken += 1
                 x = Node(at, "member", text, [x])
             else:
@@ -141,8 +142,7 @@ class Reader:
             self.expect(")")
             return x
         if kind == "number":
-            if not literal(text):
-                raise NoExpression
+            ensure(literal(text))
             return Node(at, "operand", (literal(text), True))
         if text in ("true", "false"):
             return Node(at, "operand", ("bool", True))
@@ -150,8 +150,7 @@ class Reader:
             name, _, _ = self.next()
             self.taken += 1
             return Node(at, "operand", ((name, self.list(name)), True))
-        if kind != "name" or text == "const":
-            raise NoExpression
+        ensure(kind == "name" and text != "const")
         named = text, self.list(text)
         if not self.take("("):
             return Node(at, "operand", (named, False))
@@ -174,12 +173,10 @@ class Reader:
         for behind in range(1, len(self.tokens) - self.taken):
             text, _, kind = self.next(behind)
             if text == ">" and depth == 0:
-                if not is_list:
-                    raise NoExpression
+                ensure(is_list)
                 self.taken += behind + 1
                 text = "".join(texts).replace(", >", ">").removesuffix(", ")
-                if any(not SIZES.fullmatch(size) for size in SIZED.findall(f"{name}<{text}")):
-                    raise NoExpression
+                ensure(not any(not SIZES.fullmatch(size) for size in SIZED.findall(f"{name}<{text}")))
                 return text
             if text not in ("<", ">", ",") and kind not in ("name", "number"):
                 return None

@@ -134,8 +134,7 @@ def messages():
     paths.append(os.path.join("wgsl_calls", "src", "**", "*.rt"))
     texts = ["no overload of ", "nothing has the name ", "`", "column "]
     for path in (path for each in paths for path in glob.glob(os.path.join(TOP, "crates", each), recursive=True)):
-        with open(path, encoding="utf-8") as file:
-            texts += [text.split("{")[0] for text in re.findall(r'"([^"\n]* [^"\n]*)"', file.read())]
+        texts += [text.split("{")[0] for text in re.findall(r'"([^"\n]* [^"\n]*)"', read(path))]
     return tuple(text for text in texts if text)
 
 
