@@ -12,6 +12,8 @@ use crate::syntax::{BinaryOperator, UnaryOperator};
 use crate::ty::Type;
 
 type Answer<T> = Result<T, Fail<answer::NoOverload>>;
+type Resolved = Result<Resolution, NoOverload>;
+type Typed = Result<Operand, NoOverload>;
 
 /// What a binary expression resolves to.
 ///
@@ -25,11 +27,7 @@ type Answer<T> = Result<T, Fail<answer::NoOverload>>;
 /// assert_eq!(product.parameters[1], Type::vector(2, Type::F32));
 /// assert_eq!(product.result, Some(Operand::new(Type::vector(3, Type::F32))));
 /// ```
-pub fn resolve_binary_op(
-    operator: BinaryOperator,
-    lhs: &Operand,
-    rhs: &Operand,
-) -> Result<Resolution, NoOverload> {
+pub fn resolve_binary_op(operator: BinaryOperator, lhs: &Operand, rhs: &Operand) -> Resolved {
     ask_for(Called::Binary(operator), None, [lhs, rhs].into_iter(), resolution)
 }
 
@@ -43,10 +41,7 @@ pub fn resolve_binary_op(
 /// let negated = resolve_unary_op(LogicalNegation, &Operand::new(Type::Bool)).unwrap();
 /// assert_eq!(negated.result, Some(Operand::new(Type::Bool)));
 /// ```
-pub fn resolve_unary_op(
-    operator: UnaryOperator,
-    operand: &Operand,
-) -> Result<Resolution, NoOverload> {
+pub fn resolve_unary_op(operator: UnaryOperator, operand: &Operand) -> Resolved {
     ask_for(Called::Unary(operator), None, [operand].into_iter(), resolution)
 }
 
@@ -59,11 +54,7 @@ pub fn resolve_unary_op(
 /// let clamp = resolve_builtin_fn("clamp", None, &arguments).unwrap();
 /// assert_eq!(clamp.parameters, [Type::F32, Type::F32, Type::F32]);
 /// ```
-pub fn resolve_builtin_fn(
-    name: &str,
-    template: Option<&Type>,
-    arguments: &[Operand],
-) -> Result<Resolution, NoOverload> {
+pub fn resolve_builtin_fn(name: &str, template: Option<&Type>, arguments: &[Operand]) -> Resolved {
     ask_for(Called::Function(name), template, arguments.iter(), resolution)
 }
 
@@ -80,11 +71,7 @@ pub fn resolve_builtin_fn(
 /// assert_eq!(vector.parameters, [Type::F32, Type::vector(2, Type::F32), Type::F32]);
 /// assert_eq!(resolve_ctor("vec3f", None, &arguments), Ok(vector));
 /// ```
-pub fn resolve_ctor(
-    name: &str,
-    template: Option<&Type>,
-    arguments: &[Operand],
-) -> Result<Resolution, NoOverload> {
+pub fn resolve_ctor(name: &str, template: Option<&Type>, arguments: &[Operand]) -> Resolved {
     constructor(name, template, arguments, resolution)
 }
 
@@ -101,11 +88,7 @@ pub fn resolve_ctor(
 /// let refused = type_binary_op(Addition, &truth, &truth).unwrap_err();
 /// assert_eq!(refused.to_string(), "no overload of `+` takes (bool, bool)");
 /// ```
-pub fn type_binary_op(
-    operator: BinaryOperator,
-    lhs: &Operand,
-    rhs: &Operand,
-) -> Result<Operand, NoOverload> {
+pub fn type_binary_op(operator: BinaryOperator, lhs: &Operand, rhs: &Operand) -> Typed {
     ask_for(Called::Binary(operator), None, [lhs, rhs].into_iter(), value)
 }
 
@@ -119,7 +102,7 @@ pub fn type_binary_op(
 /// assert_eq!(type_unary_op(Negation, &vector), Ok(vector));
 /// assert!(type_unary_op(Negation, &Operand::new(Type::U32)).is_err());
 /// ```
-pub fn type_unary_op(operator: UnaryOperator, operand: &Operand) -> Result<Operand, NoOverload> {
+pub fn type_unary_op(operator: UnaryOperator, operand: &Operand) -> Typed {
     ask_for(Called::Unary(operator), None, [operand].into_iter(), value)
 }
 
@@ -156,11 +139,7 @@ pub fn type_builtin_fn(
 /// assert_eq!(type_ctor("vec3", Some(&Type::F16), &one), Ok(ones.clone()));
 /// assert_eq!(type_ctor("vec3h", None, &one), Ok(ones));
 /// ```
-pub fn type_ctor(
-    name: &str,
-    template: Option<&Type>,
-    arguments: &[Operand],
-) -> Result<Operand, NoOverload> {
+pub fn type_ctor(name: &str, template: Option<&Type>, arguments: &[Operand]) -> Typed {
     constructor(name, template, arguments, value)
 }
 

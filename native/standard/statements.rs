@@ -9,6 +9,9 @@ use crate::syntax::{AccessMode, AddressSpace, AssignmentOperator};
 use crate::ty::Type;
 pub use proved::declare::Declaration;
 
+type Typed = Result<Type, Refusal>;
+type Made = Result<Operand, Misfit>;
+
 /// The type of what `let`, `const` or `override` declares with a value, and perhaps with a type (WGSL, "Value Declarations").
 ///
 /// Without a type it is that of the value: of `let` and `override` made concrete, of `const` as it is. The first of these
@@ -32,11 +35,7 @@ pub use proved::declare::Declaration;
 /// assert_eq!(refused, Err(Refusal::Conversion(Type::I32, Type::F32)));
 /// assert_eq!(declare(Declaration::Const, &x, None), Err(Refusal::NotConst));
 /// ```
-pub fn declare(
-    declaration: Declaration,
-    value: &Operand,
-    ty: Option<&Type>,
-) -> Result<Type, Refusal> {
+pub fn declare(declaration: Declaration, value: &Operand, ty: Option<&Type>) -> Typed {
     Ok(built(proved::declare::declare(declaration, &value.proved(), ty)?))
 }
 
@@ -49,7 +48,7 @@ pub fn declare(
 /// assert_eq!(override_without_value(&Type::F16), Ok(Type::F16));
 /// assert!(override_without_value(&Type::vector(3, Type::F32)).is_err());
 /// ```
-pub fn override_without_value(ty: &Type) -> Result<Type, Refusal> {
+pub fn override_without_value(ty: &Type) -> Typed {
     Ok(built(proved::declare::override_without_value(ty)?))
 }
 
@@ -71,11 +70,7 @@ pub fn override_without_value(ty: &Type) -> Result<Type, Refusal> {
 /// assert_eq!(refused, Err(Refusal::NotInSpace(AddressSpace::Storage, counter)));
 /// # Ok::<(), wgsl_types_proved::ty::SpellingError>(())
 /// ```
-pub fn variable(
-    space: AddressSpace,
-    access: Option<AccessMode>,
-    ty: &Type,
-) -> Result<Type, Refusal> {
+pub fn variable(space: AddressSpace, access: Option<AccessMode>, ty: &Type) -> Typed {
     Ok(built_form(proved::variable::variable(space, access, ty)?))
 }
 
@@ -104,7 +99,7 @@ pub fn initialized_variable(
     access: Option<AccessMode>,
     value: &Operand,
     ty: Option<&Type>,
-) -> Result<Type, Refusal> {
+) -> Typed {
     let found = proved::variable::initialized_variable(space, access, &value.proved(), ty)?;
     Ok(built_form(found))
 }
@@ -116,7 +111,7 @@ pub fn initialized_variable(
 ///
 /// assert_eq!(discard(&Operand::new(Type::AbstractFloat)), Ok(Type::F32));
 /// ```
-pub fn discard(x: &Operand) -> Result<Type, Refusal> {
+pub fn discard(x: &Operand) -> Typed {
     Ok(built(proved::declare::discard(&x.proved())?))
 }
 
@@ -135,7 +130,7 @@ pub fn discard(x: &Operand) -> Result<Type, Refusal> {
 /// # Ok::<(), wgsl_types_proved::ty::SpellingError>(())
 /// ```
 #[inline(always)]
-pub fn assign(x: &Operand, y: &Operand) -> Result<Type, Refusal> {
+pub fn assign(x: &Operand, y: &Operand) -> Typed {
     Ok(copied(proved::assign::assign(&x.given(), &y.proved())?))
 }
 
@@ -155,7 +150,7 @@ pub fn assign(x: &Operand, y: &Operand) -> Result<Type, Refusal> {
 /// assert_eq!(refused, Err(Refusal::WriteRefType(vec2, vec3)));
 /// # Ok::<(), wgsl_types_proved::ty::SpellingError>(())
 /// ```
-pub fn assign_by(operator: AssignmentOperator, x: &Operand, y: &Operand) -> Result<Type, Refusal> {
+pub fn assign_by(operator: AssignmentOperator, x: &Operand, y: &Operand) -> Typed {
     Ok(copied(proved::assign::assign_by(operator, &x.given(), &y.proved())?))
 }
 
@@ -172,7 +167,7 @@ pub fn assign_by(operator: AssignmentOperator, x: &Operand, y: &Operand) -> Resu
 /// assert_eq!(increment(&Operand::new(Type::U32)), Err(Refusal::NotReference(Type::U32)));
 /// # Ok::<(), wgsl_types_proved::ty::SpellingError>(())
 /// ```
-pub fn increment(x: &Operand) -> Result<Type, Refusal> {
+pub fn increment(x: &Operand) -> Typed {
     Ok(copied(proved::assign::increment(&x.given())?))
 }
 
@@ -187,7 +182,7 @@ pub fn increment(x: &Operand) -> Result<Type, Refusal> {
 /// assert_eq!(refused.to_string(), "the condition must be `bool`, not `u32`");
 /// # Ok::<(), wgsl_types_proved::ty::SpellingError>(())
 /// ```
-pub fn condition(x: &Operand) -> Result<Type, Refusal> {
+pub fn condition(x: &Operand) -> Typed {
     Ok(built(proved::flow::condition(&x.proved())?))
 }
 
@@ -203,7 +198,7 @@ pub fn condition(x: &Operand) -> Result<Type, Refusal> {
 /// let refused = return_value(&Operand::new(Type::U32), &Type::F32).unwrap_err();
 /// assert_eq!(refused.to_string(), "the returned value must be `f32`, not `u32`");
 /// ```
-pub fn return_value(x: &Operand, ty: &Type) -> Result<Type, Refusal> {
+pub fn return_value(x: &Operand, ty: &Type) -> Typed {
     Ok(built(proved::flow::return_value(&x.proved(), ty)?))
 }
 
@@ -245,7 +240,7 @@ pub fn fit(name: &str, values: &[Operand], types: &[Type]) -> Result<(), Misfit>
 /// let refused = construct_struct(&light, &values[..1]).unwrap_err();
 /// assert_eq!(refused.refusal, Refusal::ParamCount("Light".to_string(), 2, 1));
 /// ```
-pub fn construct_struct(ty: &Type, values: &[Operand]) -> Result<Operand, Misfit> {
+pub fn construct_struct(ty: &Type, values: &[Operand]) -> Made {
     with_operands(values.iter(), |values| match proved::lists::construct_struct(ty, values) {
         Ok(ty) => Ok(made_of(values, copied(ty))),
         Err(refusal) => Err(Misfit::of_types(refusal.into(), values, |index| match ty {
@@ -269,7 +264,7 @@ pub fn construct_struct(ty: &Type, values: &[Operand]) -> Result<Operand, Misfit
 /// let refused = construct_array(&[Type::I32, Type::U32].map(Operand::new)).unwrap_err();
 /// assert_eq!(refused.to_string(), "array elements are incompatible");
 /// ```
-pub fn construct_array(values: &[Operand]) -> Result<Operand, Misfit> {
+pub fn construct_array(values: &[Operand]) -> Made {
     with_operands(values.iter(), |values| match proved::array::construct_array(values) {
         Ok(array) => Ok(made_of(values, built(array))),
         Err(refusal) => Err(Misfit::of_elements(refusal.into(), values)),
@@ -290,11 +285,7 @@ pub fn construct_array(values: &[Operand]) -> Result<Operand, Misfit> {
 /// let refused = construct_array_of(&Type::F16, Some(2), &one).unwrap_err();
 /// assert_eq!(refused.refusal, Refusal::ParamCount("array".to_string(), 2, 1));
 /// ```
-pub fn construct_array_of(
-    element: &Type,
-    count: Option<usize>,
-    values: &[Operand],
-) -> Result<Operand, Misfit> {
+pub fn construct_array_of(element: &Type, count: Option<usize>, values: &[Operand]) -> Made {
     with_operands(values.iter(), |values| {
         match proved::array::construct_array_of(element, count, values) {
             Ok(array) => Ok(made_of(values, built(array))),

@@ -185,7 +185,6 @@ fn sent(cell: &str) -> Vec<u8> {
 
 #[test]
 fn the_protocol_is_kept() {
-    let mut wrong = Vec::new();
     for [cell, answers, status] in rows::<3>("tables/protocol.tsv") {
         let mut client = Client::spawn();
         client.write(&sent(&cell));
@@ -198,12 +197,9 @@ fn the_protocol_is_kept() {
             }
         });
         let answered = answered.collect::<Vec<_>>().join("; ");
-        let found = found.map(|status| status.to_string());
-        if answered != answers.trim_start_matches('-') || found.as_ref() != Some(&status) {
-            wrong.push(format!("{cell}\t{answered}\t{found:?}"));
-        }
+        assert_eq!(answered, answers.trim_start_matches('-'), "{cell}");
+        assert_eq!(found.map(|status| status.to_string()), Some(status), "{cell}");
     }
-    assert!(wrong.is_empty(), "{}", wrong.join("\n"));
 }
 
 /// A message may arrive in any pieces, and the input may end in any of its bytes.
