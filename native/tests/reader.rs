@@ -14,9 +14,7 @@ fn is_read(text: &str) -> bool {
 fn texts_are_read_or_refused() {
     let rows = rows::<2>("grammar/texts.txt");
     assert!(rows.len() > 2500);
-    let wrong: Vec<_> =
-        rows.iter().filter(|[verdict, text]| is_read(text) != (verdict == "read")).collect();
-    assert!(wrong.is_empty(), "{} of {}: {wrong:#?}", wrong.len(), rows.len());
+    rows.iter().for_each(|[verdict, text]| assert_eq!(is_read(text), verdict == "read", "{text}"));
 }
 
 /// `Name@2`: noted behind two tokens. `Declaration:0-3`: one from the first token on, misread at the fourth.

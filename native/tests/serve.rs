@@ -62,7 +62,6 @@ fn shown(answer: &Json, text: &str) -> String {
 #[test]
 fn requests_are_answered() {
     let mut client = Client::of_bytes();
-    let mut wrong = Vec::new();
     for [name, method, cursor, answer] in rows::<4>("tables/served.tsv") {
         let mut text = shader(&name);
         let plain = cursor.replace('‸', "");
@@ -82,12 +81,8 @@ fn requests_are_answered() {
         if let ("completion", Json::List(items)) = (called, &mut result) {
             items.retain(|item| item["label"].as_text().unwrap().starts_with(word));
         }
-        let found = shown(&result, &text);
-        if found != answer {
-            wrong.push(format!("{name}\t{method}\t{cursor}\t{found}"));
-        }
+        assert_eq!(shown(&result, &text), answer, "{name}\t{method}\t{cursor}");
     }
-    assert!(wrong.is_empty(), "{}", wrong.join("\n"));
     assert_eq!(client.end(), Some(0));
 }
 

@@ -1,5 +1,6 @@
 """Expressions by WGSL's grammar, a function for each of its rules: what `type EXPRESSION` has to read."""
 import re
+from collections import namedtuple
 
 TOKEN = re.compile(
     r"(?P<comment>/\*.*?\*/|//.*)|(?P<open>/\*)"
@@ -31,11 +32,8 @@ def ensure(is_one):
         raise NoExpression
 
 
-class Node:
-    """A part of an expression: the index of its first byte, what it is, and its parts."""
-
-    def __init__(self, at, kind, what, parts=()):
-        self.at, self.kind, self.what, self.parts = at, kind, what, list(parts)
+# A part of an expression: the index of its first byte, what it is, and its parts.
+Node = namedtuple("Node", "at kind what parts", defaults=[()])
 
 
 def literal(text):
