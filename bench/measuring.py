@@ -1,8 +1,10 @@
 """Counts instructions and takes times, for the programs of bench/."""
+import os
 import re
 import subprocess
 import time
 
+TOP = os.path.dirname(os.path.dirname(os.path.realpath(__file__)))
 FEW = 100
 MORE = 1100
 

@@ -76,7 +76,8 @@ const NEXT_SHOWN = `globalThis.nextShown = new Promise((done) => new MutationObs
   if (document.documentElement.dataset.checked !== undefined) (observer.disconnect(), done());
 }).observe(document.documentElement, { attributeFilter: ["data-checked"] })), null`;
 
-/** What a key at a place costs: all of the page's script for it, with what is put off, and by the clock that before the picture. */
+/** What a key at a place costs: all of the page's script for it, with what is put off, and each piece that runs by itself: `update` comes
+ * before the picture. */
 async function measureKey(page, text, name, place, typed) {
   const found = text.indexOf(place, text.length >> 2), index = (found < 0 ? text.indexOf(place) : found) + place.length, times = [];
   await page.run(`{ source.focus(); source.setSelectionRange(${index}, ${index}); performance.clearMeasures() }`);
@@ -87,9 +88,9 @@ async function measureKey(page, text, name, place, typed) {
     await page.run("nextShown");
     times.push((await scriptTime(page)) - before);
   }
-  const updates = await page.run(`performance.getEntriesByName("update").map(({ duration }) => duration)`);
-  const most = ms(Math.max(...times));
-  console.log(`a key ${name}: ${ms(middle(times))} of processor time, at most ${most}; before the picture ${ms(middle(updates))}`);
+  const pieces = await page.run(`["update", "checked", "draw", "cards"].map((name) => [name, performance.getEntriesByName(name).map(({ duration }) => duration)])`);
+  const told = pieces.filter(([, all]) => all.length > 0).map(([piece, all]) => `${piece} ${ms(middle(all))}`);
+  console.log(`a key ${name}: ${ms(middle(times))} of processor time, at most ${ms(Math.max(...times))}; by the clock ${told.join(", ")}`);
 }
 
 async function measurePage() {

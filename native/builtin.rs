@@ -9,8 +9,7 @@ pub use crate::proved::wgsl_calls::call::find_call;
 use crate::proved::wgsl_calls::{call, constructor};
 use crate::proved::wgsl_core::operators as proved;
 pub use crate::proved::wgsl_core::operators::Candidate;
-use crate::shim::settled;
-use crate::shim::std::alloc::Global;
+use crate::shim::{settled, std::alloc::Global};
 use crate::syntax::{BinaryOperator, UnaryOperator};
 use crate::tplt::TpltParam;
 use crate::ty::{StructType, Type};
@@ -19,9 +18,7 @@ use crate::ty::{StructType, Type};
 /// the operator and the operand for any other operand that the operator doesn't take.
 ///
 /// ```
-/// use wgsl_types_proved::builtin::type_unary_op;
-/// use wgsl_types_proved::syntax::UnaryOperator::BitwiseComplement;
-/// use wgsl_types_proved::Type;
+/// use wgsl_types_proved::{builtin::type_unary_op, syntax::UnaryOperator::BitwiseComplement, Type};
 ///
 /// assert_eq!(type_unary_op(BitwiseComplement, &Type::U32), Ok(Type::U32));
 /// let refused = type_unary_op(BitwiseComplement, &Type::F32).unwrap_err();
@@ -34,9 +31,7 @@ pub fn type_unary_op(operator: UnaryOperator, operand: &Type) -> Result<Type, Er
 /// The type of a binary expression, or [`Error::Binary`] with the operator and both operands.
 ///
 /// ```
-/// use wgsl_types_proved::builtin::type_binary_op;
-/// use wgsl_types_proved::syntax::BinaryOperator::Multiplication;
-/// use wgsl_types_proved::Type;
+/// use wgsl_types_proved::{builtin::type_binary_op, syntax::BinaryOperator::Multiplication, Type};
 ///
 /// let matrix = Type::matrix(2, 3, Type::F32);
 /// let product = type_binary_op(Multiplication, &matrix, &Type::vector(2, Type::AbstractInt))?;
@@ -50,9 +45,7 @@ pub fn type_binary_op(operator: BinaryOperator, lhs: &Type, rhs: &Type) -> Resul
 /// The candidate chosen for two operands, or [`Error::Binary`] with the operator and both operands.
 ///
 /// ```
-/// use wgsl_types_proved::builtin::binary_candidate;
-/// use wgsl_types_proved::syntax::BinaryOperator::ShiftLeft;
-/// use wgsl_types_proved::Type;
+/// use wgsl_types_proved::{builtin::binary_candidate, syntax::BinaryOperator::ShiftLeft, Type};
 ///
 /// let chosen = binary_candidate(ShiftLeft, &Type::I32, &Type::AbstractInt)?;
 /// assert_eq!((chosen.lhs, chosen.rhs, chosen.result), (Type::I32, Type::U32, Type::I32));
@@ -81,9 +74,7 @@ pub fn is_ctor(name: &str) -> bool {
 /// them. [`Error::Signature`] refuses a name that is no constructor's.
 ///
 /// ```
-/// use wgsl_types_proved::builtin::type_ctor;
-/// use wgsl_types_proved::tplt::TpltParam;
-/// use wgsl_types_proved::Type;
+/// use wgsl_types_proved::{builtin::type_ctor, tplt::TpltParam, Type};
 ///
 /// let f16 = [TpltParam::Type(Type::F16)];
 /// assert_eq!(type_ctor("vec3", Some(&f16), &[Type::AbstractInt])?, Type::vector(3, Type::F16));
@@ -100,9 +91,7 @@ pub fn type_ctor(name: &str, tplt: Option<&[TpltParam]>, args: &[Type]) -> Resul
 /// [`Error::ParamType`] has the type of the first member to which its argument doesn't convert, and that argument.
 ///
 /// ```
-/// use wgsl_types_proved::builtin::typecheck_struct_ctor;
-/// use wgsl_types_proved::ty::StructType;
-/// use wgsl_types_proved::{Error, Type};
+/// use wgsl_types_proved::{builtin::typecheck_struct_ctor, ty::StructType, Error, Type};
 ///
 /// let light = StructType::new("Light", [("color", Type::vector(3, Type::F32)), ("power", Type::F32)]);
 /// let color = Type::vector(3, Type::AbstractFloat);
@@ -118,8 +107,7 @@ pub fn typecheck_struct_ctor(of: &StructType, args: &[Type]) -> Result<(), Error
 /// None if it returns no value. [`Error::Signature`] with all three refuses a call that no overload takes.
 ///
 /// ```
-/// use wgsl_types_proved::builtin::type_builtin_fn;
-/// use wgsl_types_proved::Type;
+/// use wgsl_types_proved::{builtin::type_builtin_fn, Type};
 ///
 /// let clamped = type_builtin_fn("clamp", None, &[Type::AbstractInt, Type::F32, Type::AbstractFloat])?;
 /// assert_eq!(clamped, Some(Type::F32));

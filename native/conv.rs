@@ -9,18 +9,15 @@
 
 #[doc(hidden)]
 pub use crate::proved::wgsl_core::conversion::rank_steps;
-use crate::proved::wgsl_core::conversion::value::Convert as _;
-use crate::proved::wgsl_core::conversion::{self as proved, lists};
-use crate::shim::always;
-use crate::shim::std::alloc::Global;
+use crate::proved::wgsl_core::conversion::{self as proved, lists, value::Convert as _};
+use crate::shim::{always, std::alloc::Global};
 use crate::ty::{Ty, Type};
 use alloc::vec::Vec;
 
 /// The rank of the conversion from `a` to `b`, or None if `a` doesn't convert to `b`.
 ///
 /// ```
-/// use wgsl_types_proved::conv::conversion_rank;
-/// use wgsl_types_proved::Type;
+/// use wgsl_types_proved::{conv::conversion_rank, Type};
 ///
 /// assert_eq!(conversion_rank(&Type::AbstractInt, &Type::F32), Some(6));
 /// assert_eq!(conversion_rank(&Type::I32, &Type::U32), None);
@@ -32,8 +29,7 @@ pub fn conversion_rank(a: &Type, b: &Type) -> Option<u32> {
 /// The common type of two types (WGSL, "Overload Resolution"): the one to which the other converts; `b` if both do.
 ///
 /// ```
-/// use wgsl_types_proved::conv::convert_ty;
-/// use wgsl_types_proved::Type;
+/// use wgsl_types_proved::{conv::convert_ty, Type};
 ///
 /// assert_eq!(convert_ty(&Type::F32, &Type::AbstractInt), Some(&Type::F32));
 /// assert_eq!(convert_ty(&Type::F32, &Type::I32), None);
@@ -46,8 +42,7 @@ pub fn convert_ty<'a>(a: &'a Type, b: &'a Type) -> Option<&'a Type> {
 /// for no types.
 ///
 /// ```
-/// use wgsl_types_proved::conv::convert_all_ty;
-/// use wgsl_types_proved::Type;
+/// use wgsl_types_proved::{conv::convert_all_ty, Type};
 ///
 /// assert_eq!(convert_all_ty(&[Type::AbstractInt, Type::F16, Type::AbstractFloat]), Some(&Type::F16));
 /// ```
@@ -89,8 +84,7 @@ impl Convert for Type {
 /// Both values converted to their common type; None if there is none, or one of them doesn't convert.
 ///
 /// ```
-/// use wgsl_types_proved::conv::convert;
-/// use wgsl_types_proved::Type;
+/// use wgsl_types_proved::{conv::convert, Type};
 ///
 /// assert_eq!(convert(&Type::AbstractInt, &Type::U32), Some((Type::U32, Type::U32)));
 /// ```
@@ -104,8 +98,7 @@ pub fn convert<T: Convert>(a: &T, b: &T) -> Option<(T, T)> {
 /// them doesn't convert.
 ///
 /// ```
-/// use wgsl_types_proved::conv::convert_inner;
-/// use wgsl_types_proved::Type;
+/// use wgsl_types_proved::{conv::convert_inner, Type};
 ///
 /// let vector = |scalar| Type::vector(2, scalar);
 /// let both = convert_inner(&vector(Type::AbstractInt), &Type::F32);
@@ -121,8 +114,7 @@ pub fn convert_inner<T: Convert, U: Convert>(a: &T, b: &U) -> Option<(T, U)> {
 /// convert.
 ///
 /// ```
-/// use wgsl_types_proved::conv::convert_all;
-/// use wgsl_types_proved::Type;
+/// use wgsl_types_proved::{conv::convert_all, Type};
 ///
 /// assert_eq!(convert_all(&[Type::AbstractInt, Type::F32]), Some(vec![Type::F32, Type::F32]));
 /// ```
@@ -134,8 +126,7 @@ pub fn convert_all<T: Convert>(values: &[T]) -> Option<Vec<T>> {
 /// All values converted to a type, in order; None if one doesn't convert.
 ///
 /// ```
-/// use wgsl_types_proved::conv::convert_all_to;
-/// use wgsl_types_proved::Type;
+/// use wgsl_types_proved::{conv::convert_all_to, Type};
 ///
 /// assert_eq!(convert_all_to(&[Type::AbstractInt], &Type::I32), Some(vec![Type::I32]));
 /// assert_eq!(convert_all_to(&[Type::F32], &Type::I32), None);
@@ -147,8 +138,7 @@ pub fn convert_all_to<T: Convert>(values: &[T], ty: &Type) -> Option<Vec<T>> {
 /// All values converted by `convert_inner_to` to a type, in order; None if one doesn't convert.
 ///
 /// ```
-/// use wgsl_types_proved::conv::convert_all_inner_to;
-/// use wgsl_types_proved::Type;
+/// use wgsl_types_proved::{conv::convert_all_inner_to, Type};
 ///
 /// let vectors = [Type::vector(2, Type::AbstractInt)];
 /// assert_eq!(convert_all_inner_to(&vectors, &Type::F32), Some(vec![Type::vector(2, Type::F32)]));

@@ -1,8 +1,7 @@
 //! Instances: literals, with their types and their texts. There are no other values here.
 //!
 //! ```
-//! use wgsl_types_proved::inst::{Instance, LiteralInstance};
-//! use wgsl_types_proved::Type;
+//! use wgsl_types_proved::{inst::{Instance, LiteralInstance}, Type};
 //!
 //! let three = Instance::from(LiteralInstance::AbstractInt(3));
 //! assert!(three.is_convertible_to(&Type::F32) && !three.is_convertible_to(&Type::Bool));

@@ -26,24 +26,21 @@
 //! Those of a struct:
 //!
 //! ```
-//! use wgsl_types_proved::ty::StructType;
-//! use wgsl_types_proved::Type;
+//! use wgsl_types_proved::{ty::StructType, Type};
 //!
 //! let light = StructType::new("Light", [("power", Type::F32), ("color", Type::vector(3, Type::F32))]);
 //! assert_eq!(light.size_of(), Some(32));
 //! ```
 //!
 //! ```
-//! use wgsl_types_proved::ty::StructType;
-//! use wgsl_types_proved::Type;
+//! use wgsl_types_proved::{ty::StructType, Type};
 //!
 //! let light = StructType::new("Light", [("power", Type::F32), ("color", Type::vector(3, Type::F32))]);
 //! assert_eq!(light.align_of(), Some(16));
 //! ```
 
 pub use crate::proved::wgsl_core::layout::{PlacedMember, StructLayout};
-use crate::shim::always;
-use crate::shim::std::alloc::Global;
+use crate::shim::{always, std::alloc::Global};
 use crate::syntax::RuleSet;
 use crate::ty::StructType;
 use alloc::vec::Vec;
@@ -55,8 +52,7 @@ impl StructType {
     /// attribute nor from its type, or its alignment is 0; and if the size is above 4294967295.
     ///
     /// ```
-    /// use wgsl_types_proved::ty::StructType;
-    /// use wgsl_types_proved::Type;
+    /// use wgsl_types_proved::{ty::StructType, Type};
     ///
     /// let light = StructType::new("Light", [("power", Type::F32), ("color", Type::vector(3, Type::F32))]);
     /// let layout = light.layout().unwrap();
@@ -69,9 +65,7 @@ impl StructType {
     /// [`layout`](StructType::layout) by either set of rules. They differ for vectors of three and matrices of three rows.
     ///
     /// ```
-    /// use wgsl_types_proved::syntax::RuleSet;
-    /// use wgsl_types_proved::ty::StructType;
-    /// use wgsl_types_proved::Type;
+    /// use wgsl_types_proved::{syntax::RuleSet, ty::StructType, Type};
     ///
     /// let flags = StructType::new("Flags", [("set", Type::vector(3, Type::Bool))]);
     /// assert_eq!(flags.layout_by(RuleSet::Standard).map(|layout| layout.size), Some(16));
@@ -85,8 +79,7 @@ impl StructType {
     /// "Minimum Binding Size"). As [`layout`](StructType::layout) of any other struct, and None for the same causes.
     ///
     /// ```
-    /// use wgsl_types_proved::ty::StructType;
-    /// use wgsl_types_proved::Type;
+    /// use wgsl_types_proved::{ty::StructType, Type};
     ///
     /// let items = Type::array(None, Type::vector(3, Type::F32));
     /// let list = StructType::new("List", [("count", Type::U32), ("items", items)]);
@@ -107,8 +100,7 @@ impl StructType {
     /// The offset of each member in bytes: no placement has a smaller one. None if [`layout`](StructType::layout) is None.
     ///
     /// ```
-    /// use wgsl_types_proved::ty::StructType;
-    /// use wgsl_types_proved::Type;
+    /// use wgsl_types_proved::{ty::StructType, Type};
     ///
     /// let light = StructType::new("Light", [("power", Type::F32), ("color", Type::vector(3, Type::F32))]);
     /// assert_eq!(light.offsets(), Some(vec![0, 16]));

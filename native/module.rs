@@ -15,15 +15,13 @@ use crate::proved::wgsl_report::message::{write_misread, EXPLAINED};
 use crate::proved::wgsl_source::text::Text;
 use crate::proved::wgsl_syntax::rules::RuleSet;
 use crate::proved::wgsl_typing::count::with_counts;
-use crate::shim::always;
-use crate::shim::std::alloc::Global;
+use crate::shim::{always, std::alloc::Global};
 use crate::ty::Type;
 use alloc::string::{String, ToString};
 use alloc::vec::Vec;
 use core::ops::Range;
 
-pub use crate::proved::wgsl_names::fault::Rule;
-pub use crate::proved::wgsl_names::stage::Stage;
+pub use crate::proved::wgsl_names::{fault::Rule, stage::Stage};
 use names::names_of;
 pub use names::{Meaning, Name};
 pub use signature::Signature;

@@ -3,10 +3,8 @@
 pub use crate::proved::wgsl_check::{status, RunError};
 use crate::proved::{wgsl as commands, wgsl_check};
 use crate::shim::host::HostRuntime;
-use crate::shim::std::alloc::Global;
-use crate::shim::std::process::ExitCode;
-use alloc::string::String;
-use alloc::vec::Vec;
+use crate::shim::std::{alloc::Global, process::ExitCode};
+use alloc::{string::String, vec::Vec};
 use rust_std::io::{Read, Write};
 
 /// `wgsl`: layouts of files, and requests on standard input, by WGSL's own rules. It reads its arguments itself.

@@ -15,21 +15,16 @@
 //! # Ok::<(), usize>(())
 //! ```
 
-pub use crate::proved::wgsl_reader::kind::Kind;
-pub use crate::proved::wgsl_reader::mark::Mark;
-pub use crate::proved::wgsl_reader::module::Misread;
 use crate::proved::wgsl_reader::module::Module;
-pub use crate::proved::wgsl_reader::read::Event;
-pub use crate::proved::wgsl_reader::rule::Rule;
-pub use crate::proved::wgsl_reader::token::Token;
 use crate::proved::wgsl_reader::{expected, lists, module, read};
+pub use crate::proved::wgsl_reader::{
+    kind::Kind, mark::Mark, module::Misread, read::Event, rule::Rule, token::Token,
+};
 use crate::proved::wgsl_report::keyword;
 use crate::proved::wgsl_spelling::value::type_of_literal;
-use crate::shim::always;
-use crate::shim::std::alloc::Global;
+use crate::shim::{always, std::alloc::Global};
 use crate::Type;
-use alloc::string::String;
-use alloc::vec::Vec;
+use alloc::{string::String, vec::Vec};
 
 impl Token {
     /// The bytes of the token, as a text.

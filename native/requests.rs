@@ -2,8 +2,7 @@
 
 use crate::proved::wgsl_replies::request::{self, reply_to, Reply, TextKind};
 use crate::proved::wgsl_syntax::rules::RuleSet;
-use crate::shim::always;
-use crate::shim::std::alloc::Global;
+use crate::shim::{always, std::alloc::Global};
 use alloc::string::String;
 use core::fmt;
 

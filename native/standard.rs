@@ -12,8 +12,7 @@
 //!
 //! ```
 //! use wgsl_types_proved::standard::{resolve_builtin_fn, type_unary_op, Mismatch, Operand};
-//! use wgsl_types_proved::syntax::UnaryOperator::Negation;
-//! use wgsl_types_proved::Type;
+//! use wgsl_types_proved::{syntax::UnaryOperator::Negation, Type};
 //!
 //! let (int, x) = (Operand::new(Type::AbstractInt), Operand::new(Type::F32));
 //! let v = Operand::new("vec3<f32>".parse()?);
@@ -34,9 +33,7 @@
 //!
 //! ```
 //! use wgsl_types_proved::standard::{declare, type_of_index, type_of_member, Declaration, Operand, Refusal};
-//! use wgsl_types_proved::syntax::{AccessMode, AddressSpace};
-//! use wgsl_types_proved::ty::StructType;
-//! use wgsl_types_proved::Type;
+//! use wgsl_types_proved::{syntax::{AccessMode, AddressSpace}, ty::StructType, Type};
 //!
 //! let s = StructType::new("S", [("v", Type::vector(3, Type::F32))]);
 //! let s = Type::Ref(AddressSpace::Storage, Box::new(Type::from(s)), AccessMode::Read);
@@ -60,8 +57,7 @@ pub use crate::proved::wgsl_forms::form::Referent;
 use crate::proved::wgsl_standard as proved;
 use crate::syntax::{BinaryOperator, UnaryOperator};
 use crate::ty::Type;
-use alloc::string::String;
-use alloc::vec::Vec;
+use alloc::{string::String, vec::Vec};
 #[cfg(feature = "text")]
 pub(crate) use construct::constructor_of;
 pub use construct::{construct, NotConstructed};
@@ -106,9 +102,7 @@ impl Operand {
     /// A const-expression of that type, such as a literal, a constant, or what is computed from these alone.
     ///
     /// ```
-    /// use wgsl_types_proved::standard::{type_binary_op, Operand};
-    /// use wgsl_types_proved::syntax::BinaryOperator::ShiftLeft;
-    /// use wgsl_types_proved::Type;
+    /// use wgsl_types_proved::{standard::{type_binary_op, Operand}, syntax::BinaryOperator::ShiftLeft, Type};
     ///
     /// let one = Operand::constant(Type::AbstractInt);
     /// let shifted = |by| type_binary_op(ShiftLeft, &one, &by);
@@ -167,8 +161,7 @@ pub struct Resolution {
     ///
     /// ```
     /// use wgsl_types_proved::standard::{overloads, resolve_binary_op, Operand};
-    /// use wgsl_types_proved::syntax::BinaryOperator::Subtraction;
-    /// use wgsl_types_proved::Type;
+    /// use wgsl_types_proved::{syntax::BinaryOperator::Subtraction, Type};
     ///
     /// let vector = Operand::new(Type::vector(3, Type::F32));
     /// let difference = resolve_binary_op(Subtraction, &vector, &vector).unwrap();

@@ -13,8 +13,7 @@ pub use crate::proved::wgsl_syntax::scalar::Scalar;
 pub use crate::proved::wgsl_syntax::texel::TexelFormat;
 pub use crate::proved::wgsl_syntax::texture::SampledType;
 use alloc::string::ToString;
-use core::fmt;
-use core::str::FromStr;
+use core::{fmt, str::FromStr};
 
 impl AssignmentOperator {
     /// All assignment operators, in the order of WGSL's text.

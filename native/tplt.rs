@@ -6,8 +6,7 @@ pub use crate::proved::wgsl_calls::template::{
     TextureTemplate, VecTemplate,
 };
 pub use crate::proved::wgsl_core::signature::TpltParam;
-use crate::shim::std::alloc::Global;
-use crate::shim::{always, settled};
+use crate::shim::{always, settled, std::alloc::Global};
 use crate::ty::Type;
 
 /// Templates with their methods: `parse`, and those whose result is a type, with their names here and in the proved sources.
@@ -38,9 +37,7 @@ templates! {
         /// integer above 0.
         ///
         /// ```
-        /// use wgsl_types_proved::inst::LiteralInstance;
-        /// use wgsl_types_proved::tplt::{ArrayTemplate, TpltParam};
-        /// use wgsl_types_proved::Type;
+        /// use wgsl_types_proved::{inst::LiteralInstance, tplt::{ArrayTemplate, TpltParam}, Type};
         ///
         /// let four = TpltParam::Instance(LiteralInstance::U32(4).into());
         /// let template = ArrayTemplate::parse(&[TpltParam::Type(Type::F32), four])?;
@@ -59,8 +56,7 @@ templates! {
         /// Reads one type, else [`Error::TemplateArgs`]. [`Error::Builtin`] if it isn't a concrete scalar.
         ///
         /// ```
-        /// use wgsl_types_proved::tplt::{TpltParam, VecTemplate};
-        /// use wgsl_types_proved::Type;
+        /// use wgsl_types_proved::{tplt::{TpltParam, VecTemplate}, Type};
         ///
         /// let template = VecTemplate::parse(&[TpltParam::Type(Type::I32)])?;
         /// assert_eq!(template.ty(3).to_string(), "vec3<i32>");
@@ -76,8 +72,7 @@ templates! {
         /// Reads one type, else [`Error::TemplateArgs`]. [`Error::Builtin`] if it isn't a float.
         ///
         /// ```
-        /// use wgsl_types_proved::tplt::{MatTemplate, TpltParam};
-        /// use wgsl_types_proved::Type;
+        /// use wgsl_types_proved::{tplt::{MatTemplate, TpltParam}, Type};
         ///
         /// let template = MatTemplate::parse(&[TpltParam::Type(Type::F16)])?;
         /// assert_eq!(template.ty(2, 3).to_string(), "mat2x3<f16>");
@@ -93,8 +88,7 @@ templates! {
         /// Reads one type, else [`Error::TemplateArgs`]. [`Error::Builtin`] if it is neither a number nor a vector of numbers.
         ///
         /// ```
-        /// use wgsl_types_proved::tplt::{BitcastTemplate, TpltParam};
-        /// use wgsl_types_proved::Type;
+        /// use wgsl_types_proved::{tplt::{BitcastTemplate, TpltParam}, Type};
         ///
         /// let template = BitcastTemplate::parse(&[TpltParam::Type(Type::vector(2, Type::U32))])?;
         /// assert_eq!((template.ty().to_string(), template.inner_ty()), ("vec2<u32>".to_string(), Type::U32));
@@ -111,8 +105,7 @@ templates! {
         /// integer above 0.
         ///
         /// ```
-        /// use wgsl_types_proved::tplt::{BindingArrayTemplate, TpltParam};
-        /// use wgsl_types_proved::Type;
+        /// use wgsl_types_proved::{tplt::{BindingArrayTemplate, TpltParam}, Type};
         ///
         /// let template = BindingArrayTemplate::parse(&[TpltParam::Type(Type::F32)])?;
         /// assert_eq!((template.ty().to_string(), template.n()), ("binding_array<f32>".to_string(), None));

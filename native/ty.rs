@@ -7,12 +7,9 @@ use crate::error::Error;
 use crate::proved::wgsl_core::conversion::typed::Ty as _;
 pub use crate::proved::wgsl_core::ty::{StructMemberType, StructType, Type};
 pub use crate::proved::wgsl_syntax::texture::{SamplerType, TextureDimensions, TextureType};
-use crate::shim::std::alloc::Global;
-use crate::shim::{always, settled};
+use crate::shim::{always, settled, std::alloc::Global};
 use crate::syntax::SampledType;
-use alloc::boxed::Box;
-use alloc::string::String;
-use alloc::vec;
+use alloc::{boxed::Box, string::String, vec};
 #[cfg(feature = "text")]
 pub use spelling::SpellingError;
 

@@ -20,6 +20,11 @@ def fail(why):
     sys.exit(f"{NAME}: {why}")
 
 
+def expect(holds, why):
+    if not holds:
+        fail(why)
+
+
 def read(*path):
     """A text of the repository."""
     with open(os.path.join(TOP, *path), encoding="utf-8") as file:
@@ -45,8 +50,7 @@ def end(*command, asked="", statuses=(0,), where=None, **more):
     """A command that has ended with one of the statuses. It prints texts or bytes, as it is asked."""
     environment = {name: value for name, value in os.environ.items() if name not in UNSET}
     done = subprocess.run(command, input=asked, capture_output=True, text=isinstance(asked, str), cwd=where, env={**environment, **more})
-    if done.returncode not in statuses:
-        fail(f"{' '.join(command)} ended with {done.returncode}:\n{done.stdout[-3000:]}\n{done.stderr[-3000:]}")
+    expect(done.returncode in statuses, f"{' '.join(command)} ended with {done.returncode}:\n{done.stdout[-3000:]}\n{done.stderr[-3000:]}")
     return done
 
 
@@ -91,8 +95,7 @@ def run_tests(names):
     `test_X` for each argument X, or all."""
     known = {name[5:]: test for name, test in names.items() if name.startswith("test_")}
     for name in sys.argv[1:]:
-        if name not in known:
-            fail(f"there is no test {name}: {', '.join(known)}")
+        expect(name in known, f"there is no test {name}: {', '.join(known)}")
     if "WGSL" not in os.environ:
         run(*ASK[:1], "--version")
     return tell([fault for name in sys.argv[1:] or known for fault in known[name]() if fault])

@@ -168,17 +168,14 @@ export interface EntryPoint extends Place {
   workgroupSize: [number | null, number | null, number | null] | null;
 }
 
-export interface Message extends Place {
-  /** The end of what stands at the place. */
-  end: Place;
+export interface Message extends Note {
   /** The name of what is wrong. */
   kind: string;
-  message: string;
   /** Of what `check` finds: why the nearest overloads don't fit, or where the other declaration is. */
   notes?: Note[];
 }
 
-/** What a message says beside it, and where. */
+/** What there is to say of a place, up to its end. */
 export interface Note extends Place {
   end: Place;
   message: string;

@@ -1,33 +1,54 @@
 // A struct: its map, and the table of its members; or why it has no layout.
 import { colored } from "page/colors.js";
-import { coded, h } from "page/dom.js";
+import { coded, h, measured, number } from "page/dom.js";
 import { ByteMap, bytes, hueOf } from "page/map.js";
 import { rowCount } from "page/pieces.js";
 import { problem } from "page/problems.js";
 
 const SHOWN_ERRORS = 10; // in a card
-const EAGER_CARDS = 8; // more are filled when they come near to the window
-const fillers = new WeakMap();
+const EAGER_CARDS = 3; // new ones that are filled at once, so that none is seen empty
+const contents = new WeakMap(); // of cards: a key, and how it is made
 
-const cardsNear = new IntersectionObserver((entries) => {
+// Other cards are filled when they come near to the window. What one had before stays until then if it is near, and goes if not.
+const cardsNear = new IntersectionObserver(measured("cards", (entries) => {
   for (const { isIntersecting, target } of entries) {
-    if (!isIntersecting) continue;
-    cardsNear.unobserve(target);
-    fillers.get(target)();
+    if (isIntersecting) fill(target);
+    else target.replaceChildren();
   }
-}, { rootMargin: "100%" });
+  whenFilled();
+}), { rootMargin: "100%" });
+let whenFilled = () => {};
 
-/** The card of a struct, which is the one with this index on the page. */
-export function newCard(struct, variables, index) {
-  const height = 190 + 31 * rowCount(struct) + 29 * struct.members.length + 24 * variables.length;
-  const card = h("section", { className: "card struct", ariaLabel: `struct ${struct.name}`, style: `contain-intrinsic-block-size: auto ${height}px` });
-  const fill = () => card.append(...partsOf(struct, variables));
-  if (index < EAGER_CARDS) fill();
-  else {
-    fillers.set(card, fill);
-    cardsNear.observe(card);
+/** Fills a card when it is near. One that is observed already is told of once more. */
+function observe(card) {
+  cardsNear.unobserve(card);
+  cardsNear.observe(card);
+}
+
+function fill(card) {
+  cardsNear.unobserve(card);
+  card.replaceChildren(...contents.get(card).make());
+}
+
+export const newCard = (name) => h("section", { className: "card struct", ariaLabel: `struct ${name}` });
+
+/** Whether a card shows what has this key, or will when it is near. */
+export const hasKey = (card, key) => contents.get(card)?.key === key;
+
+/** Has cards show structs, and calls a function when those near to the window do. */
+export function fillCards(cards, whenDone) {
+  const others = cards.filter(({ card, key }) => !hasKey(card, key));
+  let isDone = true;
+  for (const [index, { card, key, struct, variables }] of others.entries()) {
+    const isEager = index < EAGER_CARDS && !contents.has(card), height = 190 + 31 * rowCount(struct) + 29 * struct.members.length + 24 * variables.length;
+    card.style.containIntrinsicBlockSize = `auto ${height}px`;
+    contents.set(card, { key, make: () => partsOf(struct, variables) });
+    if (isEager) fill(card);
+    else observe(card);
+    isDone &&= isEager;
   }
-  return card;
+  whenFilled = whenDone;
+  if (isDone) whenDone();
 }
 
 /** The card of a struct that is left out, with its errors. */
@@ -60,9 +81,9 @@ function partsOf(struct, variables) {
 }
 
 function rowOf(member, index) {
-  const cell = (n, className = "") => h("td", { className: `${className} ${n === null || n === 0 ? "none" : "number"}` }, n === null ? "–" : n.toLocaleString("en"));
+  const cell = (n, className = "") => h("td", { className: `${className} ${n === null || n === 0 ? "none" : "number"}` }, n === null ? "–" : number(n));
   const name = h("td", { className: "wide" }, h("span", { className: "swatch", style: `--hue:${hueOf(index)}` }), ...typed(member));
-  return h("tr", {}, name, h("td", { className: "number" }, member.offset.toLocaleString("en")), cell(member.size), cell(member.align), cell(member.stride, "optional"), cell(member.padding));
+  return h("tr", {}, name, h("td", { className: "number" }, number(member.offset)), cell(member.size), cell(member.align), cell(member.stride, "optional"), cell(member.padding));
 }
 
 /** `name: type` in colours, in which each name behind the colon is that of a type. */

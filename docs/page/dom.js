@@ -30,4 +30,13 @@ export function showKept(parent, shown, wanted) {
   return made;
 }
 
-export const counted = (n, word) => `${n.toLocaleString("en")} ${word}${n === 1 ? "" : "s"}`;
+/** The function, whose time is kept under a name: it is one piece of what a key costs. */
+export const measured = (name, work) => (...given) => {
+  const start = performance.now();
+  work(...given);
+  performance.measure(name, { start });
+};
+
+/** A number as English writes it, by one formatter: `toLocaleString` looks for it anew. */
+export const { format: number } = new Intl.NumberFormat("en");
+export const counted = (n, word) => `${number(n)} ${word}${n === 1 ? "" : "s"}`;

@@ -1,5 +1,5 @@
 // The map of a struct's bytes: rows of 16, each member in its colour, and padding hatched.
-import { counted, h } from "page/dom.js";
+import { counted, h, number } from "page/dom.js";
 import { UNFOLDED_ROWS, paddingOf, piecesOfRow, runsOf } from "page/pieces.js";
 
 const HUES = [255, 150, 70, 325, 200, 25, 110, 290];
@@ -77,7 +77,7 @@ export class ByteMap {
   }
 
   #folded({ from, to, member }) {
-    const { name, type } = this.#struct.members[member], count = to - from, text = `⋮ ${count.toLocaleString("en")} more rows of ${name}`;
+    const { name, type } = this.#struct.members[member], count = to - from, text = `⋮ ${number(count)} more rows of ${name}`;
     const unfold = () => {
       this.#unfolded.add(member);
       this.#draw();
@@ -105,7 +105,7 @@ export class ByteMap {
   }
 
   #tellPadding() {
-    const padding = paddingOf(this.#struct), whole = this.#struct.size.toLocaleString("en");
+    const padding = paddingOf(this.#struct), whole = number(this.#struct.size);
     this.info.replaceChildren(padding === 0 ? "No padding. " : `${bytes(padding)} of ${whole} are padding. `,
       h("span", { className: "hint" }, "Point at a part, or move with the arrow keys."));
   }

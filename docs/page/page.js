@@ -2,10 +2,10 @@
 import { SourceError, code } from "wgsl-types-proved";
 import { hashOf, stateOf } from "page/address.js";
 import { answersIn, answersTo } from "page/calculator.js";
-import { newBrokenCard, newCard, newNote, spaceOf, typed } from "page/card.js";
+import { fillCards, hasKey, newBrokenCard, newCard, newNote, spaceOf, typed } from "page/card.js";
 import { check, last, namesShader, problemsOf } from "page/checked.js";
 import { colored } from "page/colors.js";
-import { at, counted, h, showKept, source } from "page/dom.js";
+import { at, counted, h, measured, number, showKept, source } from "page/dom.js";
 import { showColors, showHints } from "page/editor.js";
 import { examples, tries } from "page/examples.js";
 import { tellCaret, watch } from "page/pointed.js";
@@ -21,15 +21,13 @@ const DRAWN_AT_ONCE = 4; // cards
 let isNew = true, wasBroken = false; // an example, or a text of an address; the text of the cards
 
 /** Shows what was found in a text. What it lays out waits for the newest one. */
-function whenChecked(isNewest) {
-  const start = performance.now();
+const whenChecked = measured("checked", (isNewest) => {
   tellProblems();
   tellCounts();
   showHints();
   if (isAboutShader || namesShader(request.value, source.value)) ask();
   if (isNewest) draw();
-  performance.measure("checked", { start });
-}
+});
 
 /** What is wrong: what was found last, where it stands now. */
 function tellProblems() {
@@ -41,7 +39,7 @@ function tellCounts() {
   const { errors, findings } = problemsOf(last.text), { structs, variables, broken, foreign } = last, numbers = [];
   if (foreign) numbers.push(`looks like ${foreign.language}`);
   else numbers.push(counted(structs.length, "struct"), counted(variables.length, "variable"));
-  if (broken.count) numbers.push(`${broken.count.toLocaleString("en")} left out`);
+  if (broken.count) numbers.push(`${number(broken.count)} left out`);
   if (errors.length) numbers.push(counted(errors.length, "error"));
   if (findings.length) numbers.push(counted(findings.length, "finding"));
   at("counts").textContent = numbers.join(" · ");
@@ -50,53 +48,48 @@ function tellCounts() {
 /** Draws what the text lays out; later if many cards are others, or if there are errors: these take away structs that the next key may
  * bring back. */
 function draw() {
-  const wanted = wantedCards(), others = [...wanted.keys()].filter((key) => !cards.has(key)).length;
+  const wanted = wantedCards(), others = wanted.filter(({ id, key }) => !(cards.has(id) && hasKey(cards.get(id), key))).length;
   const isLater = !isNew && (wasBroken || last.isBroken || others > DRAWN_AT_ONCE);
   [isNew, wasBroken, codeIsOld] = [false, last.isBroken, true];
-  if (!isLater) drawAll(wanted);
-  if (isLater || codeIsNear) drawTimer = setTimeout(drawLater, DRAWN_AFTER);
-  else tellDrawn();
+  if (isLater) drawTimer = setTimeout(measured("draw", () => drawAll()), DRAWN_AFTER);
+  else drawAll(wanted);
 }
 
 function drawAll(wanted = wantedCards()) {
-  cards = showKept(at("structs"), cards, wanted);
+  const { text } = last;
+  cards = showKept(at("structs"), cards, wanted.map(({ id, make }) => [id, make]));
   showVariables();
   at("code").hidden = last.structs.length === 0;
   showTabs();
+  if (codeIsNear) drawTimer = setTimeout(measured("code", writeCode), DRAWN_AFTER);
+  fillCards(wanted.map((one) => ({ ...one, card: cards.get(one.id) })), () => ((drawn = text), tellDrawn()));
 }
 
-function drawLater() {
-  const start = performance.now();
-  drawAll();
-  if (codeIsNear) writeCode();
-  tellDrawn();
-  performance.measure("draw", { start });
-}
-
-/** Says that what is shown is of the text, and first that the page works. */
+/** Says that all that is near shows what is of the text, and first that the page works. */
 function tellDrawn() {
+  if (drawn !== source.value || (codeIsNear && codeIsOld)) return;
   const { dataset } = document.documentElement;
   if (dataset.ready === undefined) performance.mark("ready");
   dataset.ready = dataset.checked = "";
 }
 
-let cards = new Map(); // by what they show, so that a card stays if its struct does
+let cards = new Map(), drawn = null; // by their structs; the text that they are of
 
-/** The cards to be shown, by what they show, and how each is made. Structs that are bound come first. */
+/** The cards to be shown: how each is found again and made, and of a struct what it shows. Structs that are bound come first. */
 function wantedCards() {
   const keys = new Map(), bound = Map.groupBy(last.variables, ({ typeTree }) => innermost(typeTree).struct), cards = [];
   for (const struct of last.structs) {
     const variables = bound.get(struct) ?? [], places = variables.map(({ name, type, group, binding, space, access }) => [name, type, group, binding, space, access]);
-    const make = (index) => newCard(struct, variables, index);
-    cards.push({ index: struct.index, isBound: variables.some(({ binding }) => binding !== null), key: keyOf(struct, keys) + places.join(";"), make });
+    const isBound = variables.some(({ binding }) => binding !== null), key = keyOf(struct, keys) + places.join(";");
+    cards.push({ index: struct.index, isBound, id: struct.name, make: () => newCard(struct.name), key, struct, variables });
   }
-  for (const struct of last.broken.structs) cards.push({ ...struct, key: struct, make: () => newBrokenCard(struct) });
+  for (const struct of last.broken.structs) cards.push({ ...struct, id: struct, make: () => newBrokenCard(struct) });
   cards.sort((a, b) => b.isBound - a.isBound || a.index - b.index);
   if (last.foreign || (cards.length === 0 && last.variables.length === 0)) {
     const { foreign } = last;
-    cards.unshift({ key: JSON.stringify(foreign), make: () => newNote(foreign) });
+    cards.unshift({ id: JSON.stringify(foreign), make: () => newNote(foreign) });
   }
-  return new Map(cards.map(({ key, make }) => [key, make]));
+  return cards;
 }
 
 /** The type inside all arrays. */
@@ -123,17 +116,14 @@ function keyOf(struct, keys) {
 let rows = new Map(); // of variables, by what they show beside their sizes
 
 function showVariables() {
-  const cell = (n) => h("td", { className: n === null ? "none" : "number" }, n === null ? "–" : n.toLocaleString("en"));
-  const newRow = (variable) => h("tr", {}, cell(variable.group), cell(variable.binding),
+  const put = (cell, n) => Object.assign(cell, { className: n === null ? "none" : "number", textContent: n === null ? "–" : number(n) });
+  const newRow = (variable) => h("tr", {}, put(h("td"), variable.group), put(h("td"), variable.binding),
     h("td", { className: "wide" }, ...typed(variable), h("span", { className: "space" }, `var${spaceOf(variable)}`)), h("td"));
   const wanted = last.variables.map((variable, index) =>
     [[index, variable.name, variable.type, variable.group, variable.binding, spaceOf(variable)].join("\n"), () => newRow(variable)]);
   at("variables").hidden = wanted.length === 0;
   rows = showKept(at("variables").querySelector("tbody"), rows, wanted);
-  for (const [index, row] of [...rows.values()].entries()) {
-    const size = cell(last.variables[index].minBindingSize);
-    if (!size.isEqualNode(row.lastChild)) row.lastChild.replaceWith(size);
-  }
+  for (const [index, row] of [...rows.values()].entries()) put(row.lastChild, last.variables[index].minBindingSize);
 }
 
 // Code.
@@ -154,6 +144,7 @@ function showTabs() {
 function writeCode() {
   codeIsOld = false;
   at("code-text").replaceChildren(...colored(codeOf(source.value)));
+  tellDrawn();
 }
 
 /** The code of what the text lays out, errors or not. */
@@ -225,19 +216,13 @@ function save() {
 let isDue = false, drawTimer = 0;
 
 function changed() {
-  if (!isDue) requestAnimationFrame(update);
+  if (!isDue) requestAnimationFrame(measured("update", read));
   isDue = true;
   save();
 }
 
-function update() {
-  const start = performance.now();
-  isDue = false;
-  read();
-  performance.measure("update", { start });
-}
-
 function read() {
+  isDue = false;
   clearTimeout(drawTimer);
   delete document.documentElement.dataset.checked;
   showColors();

@@ -1,5 +1,5 @@
 // What is wrong: beside the lines, under the words, and in a list.
-import { at, coded, h, showKept, source } from "page/dom.js";
+import { at, coded, h, number, showKept, source } from "page/dom.js";
 import { followColors, topOf } from "page/editor.js";
 
 const SHOWN_MARKS = 200, SHOWN_PROBLEMS = 100, SHOWN_NOTES = 3;
@@ -19,7 +19,7 @@ export function showProblems({ errors, findings }) {
   const listed = new Map(placed.slice(0, SHOWN_PROBLEMS).map((one) => [keyOf(one), one]));
   current = new Map([...listed].map(([key, { message }]) => [key, message]));
   const wanted = [...listed].map(([key, one]) => [key, () => itemOf(key, one)]), more = all.length - SHOWN_PROBLEMS;
-  if (more > 0) wanted.push([more, () => h("li", { className: "place" }, `and ${more.toLocaleString("en")} more`)]);
+  if (more > 0) wanted.push([more, () => h("li", { className: "place" }, `and ${number(more)} more`)]);
   items = showKept(at("problems"), items, wanted);
 }
 

@@ -1,8 +1,7 @@
 //! The operators as methods.
 
 use crate::error::Error;
-use crate::shim::settled;
-use crate::shim::std::alloc::Global;
+use crate::shim::{settled, std::alloc::Global};
 use crate::ty::Type;
 
 /// Methods, each with the expression of which it tells the type, its name here and in the proved sources, and an example.

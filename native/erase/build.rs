@@ -13,11 +13,7 @@ mod token;
 use crates::{files, needed, File};
 use rules::{erase, Project};
 use source::Source;
-use std::collections::HashSet;
-use std::error::Error;
-use std::path::Path;
-use std::process::ExitCode;
-use std::{env, fs};
+use std::{collections::HashSet, env, error::Error, fs, path::Path, process::ExitCode};
 
 fn main() -> ExitCode {
     match erase_all() {

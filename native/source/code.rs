@@ -3,8 +3,7 @@
 use super::{layouts, Message};
 use crate::proved::wgsl_report::report::{report_on, Format, ReportOptions};
 use crate::proved::wgsl_report::shown::Style;
-use crate::shim::always;
-use crate::shim::std::alloc::Global;
+use crate::shim::{always, std::alloc::Global};
 use alloc::string::{String, ToString};
 use alloc::vec::Vec;
 use core::fmt;

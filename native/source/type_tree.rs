@@ -2,8 +2,7 @@
 
 use super::{ElementCount, TypeTree};
 use crate::proved::wgsl_core::ty::show::ShownType;
-use crate::proved::wgsl_report::layers::inside;
-use crate::proved::wgsl_report::told::stride_of;
+use crate::proved::wgsl_report::{layers::inside, told::stride_of};
 use crate::proved::wgsl_source::measured::{Count, MeasuredType, TypeKind};
 use crate::proved::wgsl_source::module::Module;
 use crate::proved::wgsl_source::structure;

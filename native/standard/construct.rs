@@ -44,8 +44,7 @@ impl core::error::Error for NotConstructed {}
 /// type of elements, is [`construct_array`](super::construct_array).
 ///
 /// ```
-/// use wgsl_types_proved::standard::{construct, Operand};
-/// use wgsl_types_proved::Type;
+/// use wgsl_types_proved::{standard::{construct, Operand}, Type};
 ///
 /// let ones = vec![Operand::new(Type::AbstractInt); 3];
 /// for text in ["vec3f", "array<u32, 3>"] {

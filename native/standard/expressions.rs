@@ -3,8 +3,7 @@
 use super::{Operand, Referent, Refusal};
 use crate::proved::wgsl_forms as proved;
 use crate::proved::wgsl_forms::form::{Form, FormType, UnbuiltType};
-use crate::shim::always;
-use crate::shim::std::alloc::Global;
+use crate::shim::{always, std::alloc::Global};
 use crate::ty::Type;
 
 /// What `x.name` is (WGSL, "Vector Access Expression", "Structure Access Expression"): a member of a struct, a component of a
@@ -15,8 +14,7 @@ use crate::ty::Type;
 /// such part, [`Refusal::NotRead`] if several components can't be loaded.
 ///
 /// ```
-/// use wgsl_types_proved::standard::{type_of_member, Operand, Refusal};
-/// use wgsl_types_proved::Type;
+/// use wgsl_types_proved::{standard::{type_of_member, Operand, Refusal}, Type};
 ///
 /// let v = Operand::new("ref<storage, vec3<f32>, read>".parse()?);
 /// assert_eq!(type_of_member(&v, "z").unwrap().ty, "ref<storage, f32, read>".parse()?);
@@ -38,8 +36,7 @@ pub fn type_of_member(x: &Operand, name: &str) -> Result<Operand, Refusal> {
 /// AbstractInt.
 ///
 /// ```
-/// use wgsl_types_proved::standard::{type_of_index, Operand};
-/// use wgsl_types_proved::Type;
+/// use wgsl_types_proved::{standard::{type_of_index, Operand}, Type};
 ///
 /// let (matrix, i) = (Operand::new(Type::matrix(2, 3, Type::F32)), Operand::new(Type::U32));
 /// assert_eq!(type_of_index(&matrix, &i).unwrap().ty, Type::vector(3, Type::F32));

@@ -1,9 +1,7 @@
 //! Forms that are refused.
 
-use crate::proved::wgsl_forms::form::UnbuiltType;
-use crate::proved::wgsl_forms::refusal::Refusal as Proved;
-use crate::shim::always;
-use crate::shim::std::alloc::Global;
+use crate::proved::wgsl_forms::{form::UnbuiltType, refusal::Refusal as Proved};
+use crate::shim::{always, std::alloc::Global};
 use crate::syntax::{AccessMode, AddressSpace, BinaryOperator, UnaryOperator};
 use crate::ty::Type;
 use alloc::string::String;

@@ -2,9 +2,7 @@
 
 use super::Refusal;
 use crate::proved::wgsl_forms as proved;
-use crate::proved::wgsl_forms::expression::is_const_expression;
-use crate::proved::wgsl_forms::lists::Taker;
-use crate::proved::wgsl_forms::load::load_type;
+use crate::proved::wgsl_forms::{expression::is_const_expression, lists::Taker, load::load_type};
 use crate::proved::wgsl_standard::operand::Operand as Asked;
 use crate::ty::Type;
 use core::fmt;

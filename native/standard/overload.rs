@@ -1,16 +1,12 @@
 //! The overloads of a name, as texts.
 
 use super::Called;
-use crate::proved::wgsl_standard::callee;
-use crate::proved::wgsl_standard::signature::signatures;
+use crate::proved::wgsl_standard::{callee, signature::signatures};
 use crate::proved::wgsl_tables::names::{FUNCTIONS, TEMPLATE_FUNCTIONS};
-use crate::shim::always;
-use crate::shim::std::alloc::Global;
-use alloc::string::String;
-use alloc::string::ToString;
+use crate::shim::{always, std::alloc::Global};
+use alloc::string::{String, ToString};
 use alloc::vec::Vec;
-use core::fmt;
-use core::ops::Range;
+use core::{fmt, ops::Range};
 
 /// An overload, as a text in one line: `clamp(vecN<T>, vecN<T>, vecN<T>) -> vecN<T>, T: number`. It displays as the text.
 #[derive(Clone, Debug, PartialEq, Eq, Hash)]

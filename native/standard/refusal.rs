@@ -10,12 +10,10 @@ use crate::proved::wgsl_standard::overload::parameters_of;
 use crate::proved::wgsl_standard::refusal::Mismatch as Proved;
 use crate::proved::wgsl_standard::signature::Signature;
 use crate::proved::wgsl_standard::written::takes_either;
-use crate::shim::always;
-use crate::shim::std::alloc::Global;
+use crate::shim::{always, std::alloc::Global};
 use crate::syntax::RuleSet;
 use crate::ty::Type;
-use alloc::string::String;
-use alloc::string::ToString;
+use alloc::string::{String, ToString};
 use alloc::vec::Vec;
 use core::fmt;
 
@@ -71,8 +69,7 @@ impl NoOverload {
     ///
     /// ```
     /// use wgsl_types_proved::standard::{type_binary_op, Mismatch, Operand};
-    /// use wgsl_types_proved::syntax::BinaryOperator::ShiftLeft;
-    /// use wgsl_types_proved::Type;
+    /// use wgsl_types_proved::{syntax::BinaryOperator::ShiftLeft, Type};
     ///
     /// let one = Operand::new(Type::I32);
     /// let refused = type_binary_op(ShiftLeft, &one, &one).unwrap_err();
@@ -150,8 +147,7 @@ impl fmt::Display for Explanation {
 /// before one that doesn't fit, then in the order of [`overloads`](super::overloads).
 ///
 /// ```
-/// use wgsl_types_proved::standard::{explain, Callee, Mismatch, Operand};
-/// use wgsl_types_proved::Type;
+/// use wgsl_types_proved::{standard::{explain, Callee, Mismatch, Operand}, Type};
 ///
 /// let called = Callee::Function("distance".to_string());
 /// let reasons = explain(&called, None, &[Operand::new(Type::F32)]);

@@ -7,19 +7,18 @@ use crate::proved::wgsl_standard::callee::{can_be_const_expression, overloads};
 use crate::proved::wgsl_standard::operand::Operand as Asked;
 use crate::proved::wgsl_standard::substitution::built;
 use crate::proved::wgsl_standard::{answer, resolved};
-use crate::shim::always;
-use crate::shim::settled;
-use crate::shim::std::alloc::Global;
+use crate::shim::{always, settled, std::alloc::Global};
 use crate::syntax::{BinaryOperator, UnaryOperator};
 use crate::ty::Type;
 
 type Answer<T> = Result<T, Fail<answer::NoOverload>>;
+type Resolved = Result<Resolution, NoOverload>;
+type Typed = Result<Operand, NoOverload>;
 
 /// What a binary expression resolves to.
 ///
 /// ```
-/// use wgsl_types_proved::standard::{resolve_binary_op, Operand};
-/// use wgsl_types_proved::syntax::BinaryOperator::Multiplication;
+/// use wgsl_types_proved::{standard::{resolve_binary_op, Operand}, syntax::BinaryOperator::Multiplication};
 /// use wgsl_types_proved::Type;
 ///
 /// let matrix = Operand::new(Type::matrix(2, 3, Type::F32));
@@ -28,11 +27,7 @@ type Answer<T> = Result<T, Fail<answer::NoOverload>>;
 /// assert_eq!(product.parameters[1], Type::vector(2, Type::F32));
 /// assert_eq!(product.result, Some(Operand::new(Type::vector(3, Type::F32))));
 /// ```
-pub fn resolve_binary_op(
-    operator: BinaryOperator,
-    lhs: &Operand,
-    rhs: &Operand,
-) -> Result<Resolution, NoOverload> {
+pub fn resolve_binary_op(operator: BinaryOperator, lhs: &Operand, rhs: &Operand) -> Resolved {
     ask_for(Called::Binary(operator), None, [lhs, rhs].into_iter(), resolution)
 }
 
@@ -40,35 +35,26 @@ pub fn resolve_binary_op(
 /// [`indirection`](super::indirection).
 ///
 /// ```
-/// use wgsl_types_proved::standard::{resolve_unary_op, Operand};
-/// use wgsl_types_proved::syntax::UnaryOperator::LogicalNegation;
+/// use wgsl_types_proved::{standard::{resolve_unary_op, Operand}, syntax::UnaryOperator::LogicalNegation};
 /// use wgsl_types_proved::Type;
 ///
 /// let negated = resolve_unary_op(LogicalNegation, &Operand::new(Type::Bool)).unwrap();
 /// assert_eq!(negated.result, Some(Operand::new(Type::Bool)));
 /// ```
-pub fn resolve_unary_op(
-    operator: UnaryOperator,
-    operand: &Operand,
-) -> Result<Resolution, NoOverload> {
+pub fn resolve_unary_op(operator: UnaryOperator, operand: &Operand) -> Resolved {
     ask_for(Called::Unary(operator), None, [operand].into_iter(), resolution)
 }
 
 /// What a call of a built-in function resolves to. The template is that of `bitcast<T>(..)`.
 ///
 /// ```
-/// use wgsl_types_proved::standard::{resolve_builtin_fn, Operand};
-/// use wgsl_types_proved::Type;
+/// use wgsl_types_proved::{standard::{resolve_builtin_fn, Operand}, Type};
 ///
 /// let arguments = [Type::AbstractInt, Type::F32, Type::AbstractFloat].map(Operand::new);
 /// let clamp = resolve_builtin_fn("clamp", None, &arguments).unwrap();
 /// assert_eq!(clamp.parameters, [Type::F32, Type::F32, Type::F32]);
 /// ```
-pub fn resolve_builtin_fn(
-    name: &str,
-    template: Option<&Type>,
-    arguments: &[Operand],
-) -> Result<Resolution, NoOverload> {
+pub fn resolve_builtin_fn(name: &str, template: Option<&Type>, arguments: &[Operand]) -> Resolved {
     ask_for(Called::Function(name), template, arguments.iter(), resolution)
 }
 
@@ -76,8 +62,7 @@ pub fn resolve_builtin_fn(
 /// the constructor of any type see [`construct`](super::construct()): those of arrays and structs have no overloads.
 ///
 /// ```
-/// use wgsl_types_proved::standard::{resolve_ctor, Operand};
-/// use wgsl_types_proved::Type;
+/// use wgsl_types_proved::{standard::{resolve_ctor, Operand}, Type};
 ///
 /// let arguments = [Operand::new(Type::vector(2, Type::F32)), Operand::new(Type::AbstractInt)];
 /// let vector = resolve_ctor("vec3", None, &arguments).unwrap();
@@ -86,20 +71,14 @@ pub fn resolve_builtin_fn(
 /// assert_eq!(vector.parameters, [Type::F32, Type::vector(2, Type::F32), Type::F32]);
 /// assert_eq!(resolve_ctor("vec3f", None, &arguments), Ok(vector));
 /// ```
-pub fn resolve_ctor(
-    name: &str,
-    template: Option<&Type>,
-    arguments: &[Operand],
-) -> Result<Resolution, NoOverload> {
+pub fn resolve_ctor(name: &str, template: Option<&Type>, arguments: &[Operand]) -> Resolved {
     constructor(name, template, arguments, resolution)
 }
 
 /// A binary expression, without what its operands convert to. It is a const-expression if both operands are.
 ///
 /// ```
-/// use wgsl_types_proved::standard::{type_binary_op, Operand};
-/// use wgsl_types_proved::syntax::BinaryOperator::Addition;
-/// use wgsl_types_proved::Type;
+/// use wgsl_types_proved::{standard::{type_binary_op, Operand}, syntax::BinaryOperator::Addition, Type};
 ///
 /// let (one, x) = (Operand::new(Type::AbstractInt), Operand::new(Type::F32));
 /// assert_eq!(type_binary_op(Addition, &one, &x), Ok(x));
@@ -109,11 +88,7 @@ pub fn resolve_ctor(
 /// let refused = type_binary_op(Addition, &truth, &truth).unwrap_err();
 /// assert_eq!(refused.to_string(), "no overload of `+` takes (bool, bool)");
 /// ```
-pub fn type_binary_op(
-    operator: BinaryOperator,
-    lhs: &Operand,
-    rhs: &Operand,
-) -> Result<Operand, NoOverload> {
+pub fn type_binary_op(operator: BinaryOperator, lhs: &Operand, rhs: &Operand) -> Typed {
     ask_for(Called::Binary(operator), None, [lhs, rhs].into_iter(), value)
 }
 
@@ -121,15 +96,13 @@ pub fn type_binary_op(
 /// [`address_of`](super::address_of) and [`indirection`](super::indirection).
 ///
 /// ```
-/// use wgsl_types_proved::standard::{type_unary_op, Operand};
-/// use wgsl_types_proved::syntax::UnaryOperator::Negation;
-/// use wgsl_types_proved::Type;
+/// use wgsl_types_proved::{standard::{type_unary_op, Operand}, syntax::UnaryOperator::Negation, Type};
 ///
 /// let vector = Operand::new(Type::vector(3, Type::F32));
 /// assert_eq!(type_unary_op(Negation, &vector), Ok(vector));
 /// assert!(type_unary_op(Negation, &Operand::new(Type::U32)).is_err());
 /// ```
-pub fn type_unary_op(operator: UnaryOperator, operand: &Operand) -> Result<Operand, NoOverload> {
+pub fn type_unary_op(operator: UnaryOperator, operand: &Operand) -> Typed {
     ask_for(Called::Unary(operator), None, [operand].into_iter(), value)
 }
 
@@ -137,8 +110,7 @@ pub fn type_unary_op(operator: UnaryOperator, operand: &Operand) -> Result<Opera
 /// subgroup and quad operations, textures, atomics, `arrayLength` and `workgroupUniformLoad` never are.
 ///
 /// ```
-/// use wgsl_types_proved::standard::{type_builtin_fn, Operand};
-/// use wgsl_types_proved::Type;
+/// use wgsl_types_proved::{standard::{type_builtin_fn, Operand}, Type};
 ///
 /// let two = [Operand::new(Type::AbstractInt)];
 /// assert_eq!(type_builtin_fn("sqrt", None, &two), Ok(Some(Operand::new(Type::AbstractFloat))));
@@ -160,19 +132,14 @@ pub fn type_builtin_fn(
 /// are. For the constructor of any type see [`construct`](super::construct()): those of arrays and structs have no overloads.
 ///
 /// ```
-/// use wgsl_types_proved::standard::{type_ctor, Operand};
-/// use wgsl_types_proved::Type;
+/// use wgsl_types_proved::{standard::{type_ctor, Operand}, Type};
 ///
 /// let one = [Operand::new(Type::AbstractInt)];
 /// let ones = Operand::constant(Type::vector(3, Type::F16));
 /// assert_eq!(type_ctor("vec3", Some(&Type::F16), &one), Ok(ones.clone()));
 /// assert_eq!(type_ctor("vec3h", None, &one), Ok(ones));
 /// ```
-pub fn type_ctor(
-    name: &str,
-    template: Option<&Type>,
-    arguments: &[Operand],
-) -> Result<Operand, NoOverload> {
+pub fn type_ctor(name: &str, template: Option<&Type>, arguments: &[Operand]) -> Typed {
     constructor(name, template, arguments, value)
 }
 

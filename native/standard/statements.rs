@@ -3,13 +3,14 @@
 use super::expressions::built_form;
 use super::resolve::made_of;
 use super::{built, with_operands, Misfit, Operand, Refusal};
-use crate::proved::wgsl_forms as proved;
-use crate::proved::wgsl_forms::lists::Taker;
-use crate::shim::always;
-use crate::shim::std::alloc::Global;
+use crate::proved::{wgsl_forms as proved, wgsl_forms::lists::Taker};
+use crate::shim::{always, std::alloc::Global};
 use crate::syntax::{AccessMode, AddressSpace, AssignmentOperator};
 use crate::ty::Type;
 pub use proved::declare::Declaration;
+
+type Typed = Result<Type, Refusal>;
+type Made = Result<Operand, Misfit>;
 
 /// The type of what `let`, `const` or `override` declares with a value, and perhaps with a type (WGSL, "Value Declarations").
 ///
@@ -25,8 +26,7 @@ pub use proved::declare::Declaration;
 /// | `override x = v;`, `override x: T = v;` | `NotConst`; [`NotScalar`](Refusal::NotScalar); `Conversion` |
 ///
 /// ```
-/// use wgsl_types_proved::standard::{declare, Declaration, Operand, Refusal};
-/// use wgsl_types_proved::Type;
+/// use wgsl_types_proved::{standard::{declare, Declaration, Operand, Refusal}, Type};
 ///
 /// let ones = Operand::new(Type::array(Some(3), Type::AbstractInt));
 /// assert_eq!(declare(Declaration::Let, &ones, None), Ok(Type::array(Some(3), Type::I32)));
@@ -35,11 +35,7 @@ pub use proved::declare::Declaration;
 /// assert_eq!(refused, Err(Refusal::Conversion(Type::I32, Type::F32)));
 /// assert_eq!(declare(Declaration::Const, &x, None), Err(Refusal::NotConst));
 /// ```
-pub fn declare(
-    declaration: Declaration,
-    value: &Operand,
-    ty: Option<&Type>,
-) -> Result<Type, Refusal> {
+pub fn declare(declaration: Declaration, value: &Operand, ty: Option<&Type>) -> Typed {
     Ok(built(proved::declare::declare(declaration, &value.proved(), ty)?))
 }
 
@@ -47,13 +43,12 @@ pub fn declare(
 /// `f16`.
 ///
 /// ```
-/// use wgsl_types_proved::standard::override_without_value;
-/// use wgsl_types_proved::Type;
+/// use wgsl_types_proved::{standard::override_without_value, Type};
 ///
 /// assert_eq!(override_without_value(&Type::F16), Ok(Type::F16));
 /// assert!(override_without_value(&Type::vector(3, Type::F32)).is_err());
 /// ```
-pub fn override_without_value(ty: &Type) -> Result<Type, Refusal> {
+pub fn override_without_value(ty: &Type) -> Typed {
     Ok(built(proved::declare::override_without_value(ty)?))
 }
 
@@ -66,9 +61,7 @@ pub fn override_without_value(ty: &Type) -> Result<Type, Refusal> {
 /// of the space holds the type.
 ///
 /// ```
-/// use wgsl_types_proved::standard::{variable, Refusal};
-/// use wgsl_types_proved::syntax::{AccessMode, AddressSpace};
-/// use wgsl_types_proved::Type;
+/// use wgsl_types_proved::{standard::{variable, Refusal}, syntax::{AccessMode, AddressSpace}, Type};
 ///
 /// let counter: Type = "atomic<u32>".parse()?;
 /// let stored = variable(AddressSpace::Storage, Some(AccessMode::ReadWrite), &counter);
@@ -77,11 +70,7 @@ pub fn override_without_value(ty: &Type) -> Result<Type, Refusal> {
 /// assert_eq!(refused, Err(Refusal::NotInSpace(AddressSpace::Storage, counter)));
 /// # Ok::<(), wgsl_types_proved::ty::SpellingError>(())
 /// ```
-pub fn variable(
-    space: AddressSpace,
-    access: Option<AccessMode>,
-    ty: &Type,
-) -> Result<Type, Refusal> {
+pub fn variable(space: AddressSpace, access: Option<AccessMode>, ty: &Type) -> Typed {
     Ok(built_form(proved::variable::variable(space, access, ty)?))
 }
 
@@ -94,8 +83,7 @@ pub fn variable(
 ///
 /// ```
 /// use wgsl_types_proved::standard::{initialized_variable, Operand, Refusal};
-/// use wgsl_types_proved::syntax::AddressSpace::{Function, Private};
-/// use wgsl_types_proved::Type;
+/// use wgsl_types_proved::{syntax::AddressSpace::{Function, Private}, Type};
 ///
 /// let one = Operand::new(Type::AbstractInt);
 /// let x = initialized_variable(Function, None, &one, None);
@@ -111,7 +99,7 @@ pub fn initialized_variable(
     access: Option<AccessMode>,
     value: &Operand,
     ty: Option<&Type>,
-) -> Result<Type, Refusal> {
+) -> Typed {
     let found = proved::variable::initialized_variable(space, access, &value.proved(), ty)?;
     Ok(built_form(found))
 }
@@ -119,12 +107,11 @@ pub fn initialized_variable(
 /// The type of the value that `_ = x;` takes (WGSL, "Phony Assignment"), as of `let y = x;`.
 ///
 /// ```
-/// use wgsl_types_proved::standard::{discard, Operand};
-/// use wgsl_types_proved::Type;
+/// use wgsl_types_proved::{standard::{discard, Operand}, Type};
 ///
 /// assert_eq!(discard(&Operand::new(Type::AbstractFloat)), Ok(Type::F32));
 /// ```
-pub fn discard(x: &Operand) -> Result<Type, Refusal> {
+pub fn discard(x: &Operand) -> Typed {
     Ok(built(proved::declare::discard(&x.proved())?))
 }
 
@@ -134,8 +121,7 @@ pub fn discard(x: &Operand) -> Result<Type, Refusal> {
 /// refers to; the load of `y`; [`Refusal::WriteRefType`].
 ///
 /// ```
-/// use wgsl_types_proved::standard::{assign, Operand, Refusal};
-/// use wgsl_types_proved::Type;
+/// use wgsl_types_proved::{standard::{assign, Operand, Refusal}, Type};
 ///
 /// let x = Operand::new("ref<private, f32, read_write>".parse()?);
 /// assert_eq!(assign(&x, &Operand::new(Type::AbstractInt)), Ok(Type::F32));
@@ -144,7 +130,7 @@ pub fn discard(x: &Operand) -> Result<Type, Refusal> {
 /// # Ok::<(), wgsl_types_proved::ty::SpellingError>(())
 /// ```
 #[inline(always)]
-pub fn assign(x: &Operand, y: &Operand) -> Result<Type, Refusal> {
+pub fn assign(x: &Operand, y: &Operand) -> Typed {
     Ok(copied(proved::assign::assign(&x.given(), &y.proved())?))
 }
 
@@ -155,8 +141,7 @@ pub fn assign(x: &Operand, y: &Operand) -> Result<Type, Refusal> {
 ///
 /// ```
 /// use wgsl_types_proved::standard::{assign_by, Operand, Refusal};
-/// use wgsl_types_proved::syntax::AssignmentOperator::{PlusEqual, TimesEqual};
-/// use wgsl_types_proved::Type;
+/// use wgsl_types_proved::{syntax::AssignmentOperator::{PlusEqual, TimesEqual}, Type};
 ///
 /// let v = Operand::new("ref<function, vec3<f32>, read_write>".parse()?);
 /// assert_eq!(assign_by(PlusEqual, &v, &Operand::new(Type::AbstractInt)), Ok(Type::vector(3, Type::F32)));
@@ -165,7 +150,7 @@ pub fn assign(x: &Operand, y: &Operand) -> Result<Type, Refusal> {
 /// assert_eq!(refused, Err(Refusal::WriteRefType(vec2, vec3)));
 /// # Ok::<(), wgsl_types_proved::ty::SpellingError>(())
 /// ```
-pub fn assign_by(operator: AssignmentOperator, x: &Operand, y: &Operand) -> Result<Type, Refusal> {
+pub fn assign_by(operator: AssignmentOperator, x: &Operand, y: &Operand) -> Typed {
     Ok(copied(proved::assign::assign_by(operator, &x.given(), &y.proved())?))
 }
 
@@ -175,15 +160,14 @@ pub fn assign_by(operator: AssignmentOperator, x: &Operand, y: &Operand) -> Resu
 /// to something else than `i32` and `u32`.
 ///
 /// ```
-/// use wgsl_types_proved::standard::{increment, Operand, Refusal};
-/// use wgsl_types_proved::Type;
+/// use wgsl_types_proved::{standard::{increment, Operand, Refusal}, Type};
 ///
 /// let count = Operand::new("ref<function, u32, read_write>".parse()?);
 /// assert_eq!(increment(&count), Ok(Type::U32));
 /// assert_eq!(increment(&Operand::new(Type::U32)), Err(Refusal::NotReference(Type::U32)));
 /// # Ok::<(), wgsl_types_proved::ty::SpellingError>(())
 /// ```
-pub fn increment(x: &Operand) -> Result<Type, Refusal> {
+pub fn increment(x: &Operand) -> Typed {
     Ok(copied(proved::assign::increment(&x.given())?))
 }
 
@@ -191,15 +175,14 @@ pub fn increment(x: &Operand) -> Result<Type, Refusal> {
 /// load, or by [`Refusal::NotCondition`].
 ///
 /// ```
-/// use wgsl_types_proved::standard::{condition, Operand};
-/// use wgsl_types_proved::Type;
+/// use wgsl_types_proved::{standard::{condition, Operand}, Type};
 ///
 /// assert_eq!(condition(&Operand::new("ref<private, bool, read_write>".parse()?)), Ok(Type::Bool));
 /// let refused = condition(&Operand::new(Type::U32)).unwrap_err();
 /// assert_eq!(refused.to_string(), "the condition must be `bool`, not `u32`");
 /// # Ok::<(), wgsl_types_proved::ty::SpellingError>(())
 /// ```
-pub fn condition(x: &Operand) -> Result<Type, Refusal> {
+pub fn condition(x: &Operand) -> Typed {
     Ok(built(proved::flow::condition(&x.proved())?))
 }
 
@@ -209,14 +192,13 @@ pub fn condition(x: &Operand) -> Result<Type, Refusal> {
 /// doesn't convert to it.
 ///
 /// ```
-/// use wgsl_types_proved::standard::{return_value, Operand};
-/// use wgsl_types_proved::Type;
+/// use wgsl_types_proved::{standard::{return_value, Operand}, Type};
 ///
 /// assert_eq!(return_value(&Operand::new(Type::AbstractInt), &Type::F32), Ok(Type::F32));
 /// let refused = return_value(&Operand::new(Type::U32), &Type::F32).unwrap_err();
 /// assert_eq!(refused.to_string(), "the returned value must be `f32`, not `u32`");
 /// ```
-pub fn return_value(x: &Operand, ty: &Type) -> Result<Type, Refusal> {
+pub fn return_value(x: &Operand, ty: &Type) -> Typed {
     Ok(built(proved::flow::return_value(&x.proved(), ty)?))
 }
 
@@ -227,8 +209,7 @@ pub fn return_value(x: &Operand, ty: &Type) -> Result<Type, Refusal> {
 /// [`Refusal::ParamType`].
 ///
 /// ```
-/// use wgsl_types_proved::standard::{fit, Operand, Refusal};
-/// use wgsl_types_proved::Type;
+/// use wgsl_types_proved::{standard::{fit, Operand, Refusal}, Type};
 ///
 /// let (one, x) = (Operand::new(Type::AbstractInt), Operand::new("ref<private, i32, read_write>".parse()?));
 /// assert_eq!(fit("f", &[one, x.clone()], &[Type::F32, Type::I32]), Ok(()));
@@ -251,9 +232,7 @@ pub fn fit(name: &str, values: &[Operand], types: &[Type]) -> Result<(), Misfit>
 /// [`Refusal::ParamCount`]; for the first value that doesn't fit its member, its load or [`Refusal::ParamType`].
 ///
 /// ```
-/// use wgsl_types_proved::standard::{construct_struct, Operand, Refusal};
-/// use wgsl_types_proved::ty::StructType;
-/// use wgsl_types_proved::Type;
+/// use wgsl_types_proved::{standard::{construct_struct, Operand, Refusal}, ty::StructType, Type};
 ///
 /// let light = Type::from(StructType::new("Light", [("power", Type::F32), ("on", Type::Bool)]));
 /// let values = [Type::AbstractInt, Type::Bool].map(Operand::new);
@@ -261,7 +240,7 @@ pub fn fit(name: &str, values: &[Operand], types: &[Type]) -> Result<(), Misfit>
 /// let refused = construct_struct(&light, &values[..1]).unwrap_err();
 /// assert_eq!(refused.refusal, Refusal::ParamCount("Light".to_string(), 2, 1));
 /// ```
-pub fn construct_struct(ty: &Type, values: &[Operand]) -> Result<Operand, Misfit> {
+pub fn construct_struct(ty: &Type, values: &[Operand]) -> Made {
     with_operands(values.iter(), |values| match proved::lists::construct_struct(ty, values) {
         Ok(ty) => Ok(made_of(values, copied(ty))),
         Err(refusal) => Err(Misfit::of_types(refusal.into(), values, |index| match ty {
@@ -278,15 +257,14 @@ pub fn construct_struct(ty: &Type, values: &[Operand]) -> Result<Operand, Misfit
 /// [`Refusal::NotConstructible`] of the common type.
 ///
 /// ```
-/// use wgsl_types_proved::standard::{construct_array, Operand};
-/// use wgsl_types_proved::Type;
+/// use wgsl_types_proved::{standard::{construct_array, Operand}, Type};
 ///
 /// let values = [Type::AbstractInt, Type::U32].map(Operand::new);
 /// assert_eq!(construct_array(&values), Ok(Operand::new(Type::array(Some(2), Type::U32))));
 /// let refused = construct_array(&[Type::I32, Type::U32].map(Operand::new)).unwrap_err();
 /// assert_eq!(refused.to_string(), "array elements are incompatible");
 /// ```
-pub fn construct_array(values: &[Operand]) -> Result<Operand, Misfit> {
+pub fn construct_array(values: &[Operand]) -> Made {
     with_operands(values.iter(), |values| match proved::array::construct_array(values) {
         Ok(array) => Ok(made_of(values, built(array))),
         Err(refusal) => Err(Misfit::of_elements(refusal.into(), values)),
@@ -299,8 +277,7 @@ pub fn construct_array(values: &[Operand]) -> Result<Operand, Misfit> {
 /// [`Refusal::ParamCount`]; for the first value that doesn't fit `T`, its load or [`Refusal::ParamType`].
 ///
 /// ```
-/// use wgsl_types_proved::standard::{construct_array_of, Operand, Refusal};
-/// use wgsl_types_proved::Type;
+/// use wgsl_types_proved::{standard::{construct_array_of, Operand, Refusal}, Type};
 ///
 /// let one = [Operand::new(Type::AbstractInt)];
 /// let array = Operand::constant(Type::array(Some(1), Type::F16));
@@ -308,11 +285,7 @@ pub fn construct_array(values: &[Operand]) -> Result<Operand, Misfit> {
 /// let refused = construct_array_of(&Type::F16, Some(2), &one).unwrap_err();
 /// assert_eq!(refused.refusal, Refusal::ParamCount("array".to_string(), 2, 1));
 /// ```
-pub fn construct_array_of(
-    element: &Type,
-    count: Option<usize>,
-    values: &[Operand],
-) -> Result<Operand, Misfit> {
+pub fn construct_array_of(element: &Type, count: Option<usize>, values: &[Operand]) -> Made {
     with_operands(values.iter(), |values| {
         match proved::array::construct_array_of(element, count, values) {
             Ok(array) => Ok(made_of(values, built(array))),
@@ -328,8 +301,7 @@ pub fn construct_array_of(
 /// `u32` or AbstractInt; [`Refusal::NotConst`] of a case; [`Refusal::Conversion`] if both types are there.
 ///
 /// ```
-/// use wgsl_types_proved::standard::{switch_type, Operand, Refusal};
-/// use wgsl_types_proved::Type;
+/// use wgsl_types_proved::{standard::{switch_type, Operand, Refusal}, Type};
 ///
 /// let (one, two) = (Operand::new(Type::AbstractInt), Operand::constant(Type::U32));
 /// assert_eq!(switch_type(&one, &[two.clone()]), Ok(Type::U32));

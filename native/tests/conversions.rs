@@ -1,11 +1,7 @@
 //! Conversions, ranks, common types, and the candidates that are chosen for operators.
 
-mod asked;
-mod tables;
-
-use asked::types;
-use tables::rows;
-use wgsl_types_proved::builtin::binary_candidate;
+use crate::{asked::types, random::words, tables::rows};
+use wgsl_types_proved::builtin::{binary_candidate, type_builtin_fn};
 use wgsl_types_proved::conv::{
     convert, convert_all, convert_all_inner_to, convert_all_to, convert_all_ty, convert_inner,
     convert_ty, rank_steps, Convert,
@@ -72,29 +68,15 @@ fn types_convert_as_the_table_says() {
     }
 }
 
-/// The struct, in words, that a function gives for this many components.
-fn result_struct(function: &str, components: usize, precision: &str) -> String {
-    let float = if precision == "abstract" { "AbstractFloat" } else { precision };
-    let (second, of) = match (function, precision) {
-        ("modf", _) => ("whole", float),
-        (_, "abstract") => ("exp", "AbstractInt"),
-        _ => ("exp", "i32"),
-    };
-    let (shape, around) = match components {
-        1 => (String::new(), String::new()),
-        n => (format!("vec{n}_"), format!("vec {n} ")),
-    };
-    let name = format!("__{function}_result_{shape}{precision}");
-    format!("struct {name} 2 fract - - {around}{float} {second} - - {around}{of}")
-}
-
-/// The structs that calls give, in threes of one function and shape: of AbstractFloat, f32 and f16.
+/// The structs that calls give, in words, in threes of one function and shape: of AbstractFloat, f32 and f16.
 fn result_structs() -> Vec<String> {
     let mut results = Vec::new();
     for function in ["frexp", "modf"] {
         for components in 1..=4 {
-            let precisions = ["abstract", "f32", "f16"];
-            results.extend(precisions.map(|of| result_struct(function, components, of)));
+            results.extend([Type::AbstractFloat, Type::F32, Type::F16].map(|of| {
+                let of = if components == 1 { of } else { Type::vector(components, of) };
+                words(&type_builtin_fn(function, None, &[of]).unwrap().unwrap())
+            }));
         }
     }
     results

@@ -1,9 +1,7 @@
 //! What an editor asks of a checked module.
 
-mod tables;
-
+use crate::tables::rows;
 use std::ops::Range;
-use tables::rows;
 use wgsl_types_proved::module::{check, check_in, Meaning, Stage};
 use wgsl_types_proved::ty::StructType;
 use wgsl_types_proved::Type;

@@ -1,10 +1,6 @@
 //! WGSL files are read by WGSL's grammar: what it refuses is an error where it stops, and there is no other error of that kind.
 
-mod random;
-mod tables;
-
-use random::Random;
-use tables::rows;
+use crate::{random::Random, tables::rows};
 use wgsl_types_proved::reader::{expected_at, read_module, tokens, Kind, Misread, Token};
 use wgsl_types_proved::source::layouts;
 
@@ -71,20 +67,10 @@ fn agrees(text: &str) -> bool {
 }
 
 fn check(texts: impl IntoIterator<Item = String>) {
-    let wrong: Vec<String> = texts.into_iter().filter(|text| !agrees(text)).collect();
-    let shown: Vec<_> = wrong.iter().take(20).map(|text| (text, told_of_file(text))).collect();
-    assert!(wrong.is_empty(), "{} texts: {shown:#?}", wrong.len());
+    texts.into_iter().for_each(|text| assert!(agrees(&text), "{text}: {:?}", told_of_file(&text)));
 }
 
-#[test]
-fn texts_are_read_or_refused() {
-    let texts = rows("grammar/texts.txt");
-    assert!(texts.len() > 2500);
-    for [verdict, text] in texts {
-        assert_eq!(told_of_file(&text).is_empty(), verdict == "read", "{text}");
-    }
-}
-
+/// So a text has errors if the grammar refuses it, as `reader` tests of each.
 #[test]
 fn errors_stand_where_the_grammar_stops() {
     check(rows("grammar/texts.txt").into_iter().map(|[_, text]| text));

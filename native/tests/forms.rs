@@ -1,17 +1,12 @@
 //! Members, indexes, loads, declarations, assignments and lists of values: each question of `tests/forms/questions.txt`, or of
 //! the file that the variable `QUESTIONS` names, has its answer.
 
-mod asked;
-mod tables;
-
-use asked::{types, Asked};
-use std::collections::HashMap;
-use std::{env, fs};
-use wgsl_types_proved::mem::StructLayout;
-use wgsl_types_proved::standard::*;
-use wgsl_types_proved::syntax::AddressSpace;
-use wgsl_types_proved::ty::StructType;
-use wgsl_types_proved::Type;
+use crate::asked::{reply, types, Asked};
+use crate::tables::rows;
+use std::{collections::HashMap, env, fs};
+use wgsl_types_proved::{
+    mem::StructLayout, standard::*, syntax::AddressSpace, ty::StructType, Type,
+};
 
 #[test]
 fn questions_are_answered() {
@@ -26,7 +21,7 @@ fn questions_are_answered() {
         if !question.contains("layout struct ") {
             // The request has the same answer.
             let told = found.clone().map_err(|refusal| refusal.to_string());
-            assert_eq!(asked::reply(question), Some(told), "{question}");
+            assert_eq!(reply(question), Some(told), "{question}");
         }
         let refused = |refusal| format!("refused\t{}", in_wgsl(variant(&refusal)));
         let found = found.unwrap_or_else(refused);
@@ -40,7 +35,7 @@ fn questions_are_answered() {
 /// values; or why there is none.
 #[test]
 fn parts_are_operands() {
-    for [question, expected] in tables::rows("tables/operands.tsv") {
+    for [question, expected] in rows("tables/operands.tsv") {
         let mut asked = Asked::new(&question);
         let found = operand(&mut asked);
         assert!(asked.is_empty(), "{question}");
@@ -68,7 +63,7 @@ fn operand(asked: &mut Asked) -> Result<String, Refusal> {
 /// compiler of a current browser says.
 #[test]
 fn swizzles_are_assigned_to() {
-    let rows = tables::rows::<3>("tables/swizzles.tsv");
+    let rows = rows::<3>("tables/swizzles.tsv");
     let (names, statements): (Vec<_>, Vec<_>) = rows.into_iter().partition(|row| row[0] == "name");
     let names: HashMap<_, _> =
         names.into_iter().map(|[_, name, ty]| (name, Asked::new(&ty).ty())).collect();
@@ -252,7 +247,7 @@ fn misfits() {
     let s = Type::from(StructType::new("S", [("a", Type::F32), ("b", Type::U32)]));
     let operands =
         |texts: &str| types(texts).into_iter().map(Operand::constant).collect::<Vec<_>>();
-    for [asked, values, others, blamed] in tables::rows("tables/misfits.tsv") {
+    for [asked, values, others, blamed] in rows("tables/misfits.tsv") {
         let of = operands(&values);
         let misfit = match &*asked {
             "fit" => fit("f", &of, &types(&others)).unwrap_err(),

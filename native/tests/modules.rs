@@ -1,9 +1,7 @@
 //! The check of modules: each of `tests/modules/modules.txt` is allowed, or refused by the rule that it names. What is `left out`
 //! or concerns `uniformity` may be allowed.
 
-mod tables;
-
-use tables::rows;
+use crate::tables::rows;
 use wgsl_types_proved::module::{check, Fault};
 
 /// The rules that the grammar keeps, whatever the list calls them.
@@ -13,7 +11,6 @@ const BY_GRAMMAR: [&str; 5] = ["behaviour", "switch", "value", "struct", "attrib
 fn modules_are_allowed_or_refused() {
     let rows = rows("modules/modules.txt");
     assert_eq!(rows.len(), 577);
-    let mut wrong = Vec::new();
     for [verdict, rule, text] in rows {
         let broken = broken_rules(&text);
         let is_right = match &*verdict {
@@ -23,11 +20,8 @@ fn modules_are_allowed_or_refused() {
             _ if rule == "syntax" => matches!(broken[..], ["attribute" | "extension"]),
             _ => BY_GRAMMAR.contains(&&*rule) && broken.contains(&"syntax"),
         };
-        if !is_right {
-            wrong.push(format!("{verdict} {rule}, but {broken:?}: {text}"));
-        }
+        assert!(is_right, "{verdict} {rule}, but {broken:?}: {text}");
     }
-    assert!(wrong.is_empty(), "{}: {wrong:#?}", wrong.len());
 }
 
 /// The rule of each fault.
@@ -76,27 +70,21 @@ fn counts_of_overrides_are_spelled() {
 /// message, and the types of some expressions, the last ones of their texts.
 #[test]
 fn shaders_have_faults_and_types() {
-    let mut wrong = Vec::new();
     for [faults, types, text] in rows("modules/shaders.txt") {
         let checked = check(&text);
         let places = placed(&text, &checked.faults);
         let faults: Vec<&str> = faults.split("; ").filter(|fault| !fault.is_empty()).collect();
-        let are_right = faults.iter().zip(&places).all(|(fault, (place, message))| {
-            fault == place || *fault == format!("{place}: {message}")
-        });
-        if !are_right || faults.len() != places.len() {
-            wrong.push(format!("{faults:?}, but {places:?}: {text}"));
+        assert_eq!(faults.len(), places.len(), "{places:?}: {text}");
+        for (fault, (place, message)) in faults.into_iter().zip(places) {
+            assert!(fault == place || fault == format!("{place}: {message}"), "{fault}: {text}");
         }
         for expected in types.split("; ").filter(|expected| !expected.is_empty()) {
             let (part, ty) = expected.split_once(" is ").unwrap();
             let part = checked.parts.iter().rfind(|found| &text[found.bytes.clone()] == part);
             let found = part.and_then(|part| part.typed.as_ref()).map(|(ty, _)| ty.to_string());
-            if found.as_deref() != Some(ty) {
-                wrong.push(format!("{expected}, but {found:?}: {text}"));
-            }
+            assert_eq!(found.as_deref(), Some(ty), "{expected}: {text}");
         }
     }
-    assert!(wrong.is_empty(), "{wrong:#?}");
 }
 
 /// Any text is checked: each beginning of each module, and each without its first bytes. None has an expression without a type of

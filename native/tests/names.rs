@@ -1,10 +1,8 @@
 //! Names read and printed, and what texel formats and textures answer.
 
-mod tables;
-
+use crate::tables::rows;
 use std::fmt::{Debug, Display};
 use std::str::FromStr;
-use tables::rows;
 use wgsl_types_proved::builtin::find_call;
 use wgsl_types_proved::syntax::{
     AccessMode, AddressSpace, AssignmentOperator, BuiltinValue, ConservativeDepth,

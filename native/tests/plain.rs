@@ -1,8 +1,6 @@
 //! Calls that answer the same in two ways.
 
-mod random;
-
-use random::Random;
+use crate::random::Random;
 use wgsl_types_proved::builtin::{is_ctor, type_builtin_fn, type_ctor, typecheck_struct_ctor};
 use wgsl_types_proved::syntax::{AccessMode, AddressSpace};
 use wgsl_types_proved::ty::StructType;

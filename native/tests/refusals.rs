@@ -1,9 +1,7 @@
 //! Refusals as they are printed, and the signatures in them.
 
-mod asked;
-mod tables;
-
-use asked::{one_type, parameters, types};
+use crate::asked::{one_type, parameters, types};
+use crate::tables::rows;
 use wgsl_types_proved::builtin::{type_builtin_fn, typecheck_struct_ctor};
 use wgsl_types_proved::inst::LiteralInstance as Literal;
 use wgsl_types_proved::requests::answer;
@@ -34,7 +32,7 @@ fn refusals() -> Vec<Error> {
 /// Each refusal and its copy print as the message.
 #[test]
 fn refusals_print_their_messages() {
-    let (refusals, rows) = (refusals(), tables::rows("tables/refusals.tsv"));
+    let (refusals, rows) = (refusals(), rows("tables/refusals.tsv"));
     assert_eq!(refusals.len(), rows.len());
     for (error, [shown, message]) in refusals.into_iter().zip(rows) {
         let copy = error.clone();

@@ -1,8 +1,7 @@
 //! How a run goes on or ends if reads and writes are short, are interrupted or fail, and if the input ends after any byte;
 //! and the status of each outcome.
 
-mod tables;
-
+use crate::tables::rows;
 use std::io::ErrorKind::{self, Interrupted, Other};
 use std::io::{self, Read, Write};
 use std::sync::LazyLock;
@@ -12,7 +11,7 @@ use wgsl_types_proved::programs::{run, status, RunError};
 const WHOLE: usize = 1 << 20;
 
 /// A line of every command, a blank one and one that can't be read, each with what is printed for it.
-static LINES: LazyLock<Vec<[String; 2]>> = LazyLock::new(|| tables::rows("tables/run.tsv"));
+static LINES: LazyLock<Vec<[String; 2]>> = LazyLock::new(|| rows("tables/run.tsv"));
 
 /// After how many calls one fails, and how.
 type Fault = Option<(usize, ErrorKind)>;

@@ -4,19 +4,13 @@
 #[allow(dead_code)]
 #[macro_use]
 mod json;
-mod random;
 mod serving;
-mod tables;
 
+use crate::{random::Random, tables::rows};
 use json::Json;
-use random::Random;
 use serving::{at, framed, opened, range, Client};
-use std::fs;
-use std::io::Write;
-use std::ops::Range;
-use std::process::{Command, Stdio};
-use wgsl_types_proved::module::check;
-use wgsl_types_proved::predeclared::attributes;
+use std::{fs, ops::Range};
+use wgsl_types_proved::{module::check, predeclared::attributes};
 
 fn shader(name: &str) -> String {
     fs::read_to_string(format!("tests/sourced/{name}.wgsl")).expect(name)
@@ -68,8 +62,7 @@ fn shown(answer: &Json, text: &str) -> String {
 #[test]
 fn requests_are_answered() {
     let mut client = Client::of_bytes();
-    let mut wrong = Vec::new();
-    for [name, method, cursor, answer] in tables::rows::<4>("tables/served.tsv") {
+    for [name, method, cursor, answer] in rows::<4>("tables/served.tsv") {
         let mut text = shader(&name);
         let plain = cursor.replace('‸', "");
         let (found, written) = cursor.split_once(" => ").unwrap_or((&plain, &cursor));
@@ -88,12 +81,8 @@ fn requests_are_answered() {
         if let ("completion", Json::List(items)) = (called, &mut result) {
             items.retain(|item| item["label"].as_text().unwrap().starts_with(word));
         }
-        let found = shown(&result, &text);
-        if found != answer {
-            wrong.push(format!("{name}\t{method}\t{cursor}\t{found}"));
-        }
+        assert_eq!(shown(&result, &text), answer, "{name}\t{method}\t{cursor}");
     }
-    assert!(wrong.is_empty(), "{}", wrong.join("\n"));
     assert_eq!(client.end(), Some(0));
 }
 
@@ -150,7 +139,7 @@ fn many_faults_are_cut() {
 /// A client is sent what it can read and asks for, by the parameters of its `initialize`.
 #[test]
 fn clients_have_options() {
-    for [params, text, asked, answers] in tables::rows::<4>("tables/clients.tsv") {
+    for [params, text, asked, answers] in rows::<4>("tables/clients.tsv") {
         let mut client = Client::spawn();
         let reply = client.request("initialize", Json::read(&params).unwrap());
         client.open("a", &text);
@@ -191,8 +180,7 @@ fn sent(cell: &str) -> Vec<u8> {
 
 #[test]
 fn the_protocol_is_kept() {
-    let mut wrong = Vec::new();
-    for [cell, answers, status] in tables::rows::<3>("tables/protocol.tsv") {
+    for [cell, answers, status] in rows::<3>("tables/protocol.tsv") {
         let mut client = Client::spawn();
         client.write(&sent(&cell));
         let (messages, found) = client.rest();
@@ -204,12 +192,9 @@ fn the_protocol_is_kept() {
             }
         });
         let answered = answered.collect::<Vec<_>>().join("; ");
-        let found = found.map(|status| status.to_string());
-        if answered != answers.trim_start_matches('-') || found.as_ref() != Some(&status) {
-            wrong.push(format!("{cell}\t{answered}\t{found:?}"));
-        }
+        assert_eq!(answered, answers.trim_start_matches('-'), "{cell}");
+        assert_eq!(found.map(|status| status.to_string()), Some(status), "{cell}");
     }
-    assert!(wrong.is_empty(), "{}", wrong.join("\n"));
 }
 
 /// A message may arrive in any pieces, and the input may end in any of its bytes.
@@ -251,26 +236,6 @@ fn a_long_document_is_served() {
     client.change("a", 2, None, "");
     assert_eq!(client.faults()["version"], 2.into());
     assert_eq!(client.end(), Some(0));
-}
-
-/// The words behind `wgsl`, the input, the status, how the output begins, and what is told of an error.
-#[test]
-fn arguments_are_read() {
-    for [words, input, status, output, told] in tables::rows::<5>("tables/serve.tsv") {
-        let mut program = Command::new(env!("CARGO_BIN_EXE_wgsl"));
-        program.args(words.split(' ')).stdin(Stdio::piped()).stdout(Stdio::piped());
-        let mut child = program.stderr(Stdio::piped()).spawn().unwrap();
-        let _ = child.stdin.take().unwrap().write_all(input.as_bytes());
-        let done = child.wait_with_output().unwrap();
-        let [printed, notes] = [done.stdout, done.stderr].map(|it| String::from_utf8(it).unwrap());
-        assert_eq!(done.status.code().map(|code| code.to_string()), Some(status), "{words}");
-        assert!(printed.starts_with(&output), "{words}: {printed}");
-        assert_eq!(printed.is_empty(), output.is_empty(), "{words}: {printed}");
-        assert_eq!(notes.trim_end(), told, "{words}");
-        let is_help = words.starts_with("serve") && !output.is_empty();
-        assert_eq!(printed.contains("2 for wrong arguments."), is_help, "{printed}");
-        assert_eq!(printed.contains("serve"), !output.is_empty(), "{printed}");
-    }
 }
 
 /// Each attribute is offered somewhere.

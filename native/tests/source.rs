@@ -1,9 +1,6 @@
 //! Types from their spellings, and the layouts of a file.
 
-mod random;
-mod tables;
-
-use random::Random;
+use crate::{random::Random, tables::rows};
 use wgsl_types_proved::source::{code, layouts, types, Language, Message};
 use wgsl_types_proved::Type;
 
@@ -55,7 +52,7 @@ fn told(text: &[u8]) -> Vec<[String; 2]> {
 #[test]
 fn modules_are_laid_out() {
     let mut found = Vec::new();
-    for [list, text] in tables::rows("tables/layouts.tsv") {
+    for [list, text] in rows("tables/layouts.tsv") {
         if list == "module" {
             assert_eq!(found, [[""; 2]; 0], "isn't in the table");
             found = told(text.as_bytes());
@@ -70,7 +67,7 @@ fn modules_are_laid_out() {
 
 #[test]
 fn address_spaces_hold_what_browsers_let_them_hold() {
-    let rows = tables::rows::<2>("tables/spaces.tsv");
+    let rows = rows::<2>("tables/spaces.tsv");
     assert_eq!(rows.len(), 27);
     for [verdict, text] in rows {
         let module = layouts(&text);
@@ -123,7 +120,7 @@ fn types_that_cannot_be_given_are_left_out() {
 
 #[test]
 fn code_is_written() {
-    let rows = tables::rows::<2>("tables/code.tsv");
+    let rows = rows::<2>("tables/code.tsv");
     let languages = [Language::C, Language::Rust, Language::Numpy, Language::TypeScript];
     assert_eq!(rows.len(), 1 + languages.len());
     for (language, [name, wanted]) in languages.into_iter().zip(&rows[1..]) {

@@ -1,17 +1,18 @@
 //! Types and literals as WGSL spells them: what is read, and what is refused where.
 
-mod tables;
-
+use crate::tables;
 use wgsl_types_proved::reader::tokens;
 use wgsl_types_proved::requests::standard_answer;
 use wgsl_types_proved::source::{layouts, types};
 use wgsl_types_proved::Type;
 
-/// The rows of a file. Of a type these are a text, what it is or `refused`, and what a WGSL file has there: a file evaluates
+/// The rows of a file, which are this many. Of a type these are a text, what it is or `refused`, and what a WGSL file has there: a file evaluates
 /// calls, and refuses what only requests have (references, access modes of every pointer, abstract types) and types that no
 /// declaration may have.
-fn rows<const CELLS: usize>(name: &str) -> Vec<[String; CELLS]> {
-    tables::rows(&format!("spellings/{name}.txt"))
+fn rows<const CELLS: usize>(name: &str, count: usize) -> Vec<[String; CELLS]> {
+    let rows = tables::rows(&format!("spellings/{name}.txt"));
+    assert_eq!(rows.len(), count, "{name}");
+    rows
 }
 
 /// What is read, or `refused`.
@@ -33,9 +34,7 @@ fn type_of(text: &str) -> String {
 
 #[test]
 fn each_type_is_read_by_each_door() {
-    let rows = rows("types");
-    assert_eq!(rows.len(), 93);
-    for [text, expected, in_file] in rows {
+    for [text, expected, in_file] in rows("types", 93) {
         assert_eq!(type_in_file(&text), in_file, "a file with {text}");
         assert_eq!(or_refused(text.parse::<Type>().ok()), expected, "{text}");
         // An expression may stand in brackets, and a request is one line.
@@ -48,9 +47,7 @@ fn each_type_is_read_by_each_door() {
 
 #[test]
 fn each_literal_is_read_by_each_door() {
-    let rows = rows("literals");
-    assert_eq!(rows.len(), 49);
-    for [text, expected] in rows {
+    for [text, expected] in rows("literals", 49) {
         let file = layouts(format!("enable f16; const a = {text};"));
         assert_eq!(file.errors.is_empty(), expected != "refused", "a file with {text}");
         let tokens = tokens(&text).unwrap();
@@ -65,9 +62,7 @@ fn each_literal_is_read_by_each_door() {
 
 #[test]
 fn what_is_no_type_has_a_place_and_a_cause() {
-    let rows = rows("causes");
-    assert_eq!(rows.len(), 46);
-    for [text, told] in rows {
+    for [text, told] in rows("causes", 46) {
         let answer = match text.parse::<Type>() {
             Ok(ty) => ty.to_string(),
             Err(error) => {
@@ -82,9 +77,7 @@ fn what_is_no_type_has_a_place_and_a_cause() {
 
 #[test]
 fn a_count_may_have_calls_and_components() {
-    let rows = rows("counts");
-    assert_eq!(rows.len(), 54);
-    for [count, value] in rows {
+    for [count, value] in rows("counts", 54) {
         let text = format!("array<f32, {count}>");
         let expected = if value == "refused" { value } else { format!("array<f32, {value}>") };
         assert_eq!(or_refused(text.parse::<Type>().ok()), expected, "{text}");

@@ -1,9 +1,6 @@
 //! WGSL's own overloads: the results of calls print as the answers to the same requests.
 
-mod asked;
-mod random;
-
-use random::Random;
+use crate::{asked::reply, random::Random};
 use std::collections::BTreeSet;
 use wgsl_types_proved::builtin::is_ctor;
 use wgsl_types_proved::requests::standard_answer;
@@ -15,7 +12,7 @@ const ROUNDS: usize = 20_000;
 
 /// Whether a request can be read; then it has that answer.
 fn is_answered(request: &str, found: &str) -> bool {
-    let told = asked::reply(request).map(|told| told.unwrap_or_else(|why| why));
+    let told = reply(request).map(|told| told.unwrap_or_else(|why| why));
     told.inspect(|told| assert_eq!(told, found, "{request}")).is_some()
 }
 

@@ -1,8 +1,6 @@
 //! Templates one by one: what each makes of its parameters, and each of its refusals, as `tests/tables/templates.tsv` says.
 
-mod asked;
-mod tables;
-
+use crate::{asked::parameters, tables::rows};
 use wgsl_types_proved::tplt::{ArrayTemplate, AtomicTemplate, BindingArrayTemplate};
 use wgsl_types_proved::tplt::{BitcastTemplate, MatTemplate, PtrTemplate};
 use wgsl_types_proved::tplt::{TextureTemplate, TpltParam, VecTemplate};
@@ -38,12 +36,12 @@ fn made(name: &str, tplt: &[TpltParam]) -> Result<String, Error> {
 
 #[test]
 fn templates_make_types_or_refuse() {
-    let rows = tables::rows::<3>("tables/templates.tsv");
+    let rows = rows::<3>("tables/templates.tsv");
     assert_eq!(rows.len(), 327);
-    for [name, parameters, wanted] in rows {
-        let found = made(&name, &asked::parameters(&parameters));
+    for [name, listed, wanted] in rows {
+        let found = made(&name, &parameters(&listed));
         let answer = found.unwrap_or_else(|refused| refused.to_string());
-        assert_eq!(answer, wanted, "{name} of `{parameters}`");
+        assert_eq!(answer, wanted, "{name} of `{listed}`");
     }
 }
 

@@ -1,8 +1,6 @@
 //! Random types and calls: the result of a call prints as the answer to the same request.
 
-mod random;
-
-use random::{template_words, words, Random};
+use crate::random::{template_words, words, Random};
 use std::fmt::Display;
 use wgsl_types_proved::builtin::{type_binary_op, type_builtin_fn, type_ctor, type_unary_op};
 use wgsl_types_proved::conv::{conversion_rank, convert_all_ty};

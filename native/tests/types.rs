@@ -1,10 +1,7 @@
 //! Types, also strange ones: their kinds, what is made of them, copies, equality, 300 layers; and literals.
 
-mod asked;
-mod tables;
-
-use asked::{one_type, parameters, types};
-use tables::rows;
+use crate::asked::{one_type, parameters, types};
+use crate::tables::rows;
 use wgsl_types_proved::builtin::type_builtin_fn;
 use wgsl_types_proved::conv::conversion_rank;
 use wgsl_types_proved::syntax::SampledType;

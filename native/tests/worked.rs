@@ -1,7 +1,6 @@
 //! Worked examples: the requests of `tests/lines`, and what no request asks.
 
-use std::fs;
-use std::thread;
+use std::{fs, thread};
 use wgsl_types_proved::builtin::{type_builtin_fn, type_ctor};
 use wgsl_types_proved::conv::{convert_all, convert_all_ty, convert_ty};
 use wgsl_types_proved::mem::{PlacedMember, StructLayout};

@@ -6,12 +6,9 @@ use crate::proved::wgsl_report::message;
 use crate::proved::wgsl_spelling::fault::{Cause, Fault};
 use crate::proved::wgsl_spelling::{meant::meant, spelled::type_of_text};
 use crate::reader::{read, Token};
-use crate::shim::always;
-use crate::shim::std::alloc::Global;
-use alloc::format;
-use alloc::string::String;
-use core::fmt;
-use core::str::FromStr;
+use crate::shim::{always, std::alloc::Global};
+use alloc::{format, string::String};
+use core::{fmt, str::FromStr};
 
 /// Why a text can't be read as a type. It displays as `column 6: ..`, in bytes from 1.
 #[derive(Clone, Debug, PartialEq, Eq, Hash)]

@@ -95,8 +95,7 @@ def entered_by(line, homes_of):
             check=True,
             text=True,
         )
-        with open(out, encoding="utf-8") as file:
-            symbols = set(SYMBOL.findall(file.read()))
+        symbols = set(SYMBOL.findall(read(out)))
     for symbol in symbols:
         crate, *modules, function = symbol.split("::")
         owner = modules.pop() if modules and modules[-1][0].isupper() else ""

@@ -7,7 +7,7 @@ from erased.random_lines import broken_requests, random_lines
 from erased.tools import answers_of, cargo
 from forms.check_forms import questions as form_questions
 from forms.random_requests import random_requests
-from programs import TESTS, TOP, fail
+from programs import TESTS, TOP, expect, fail
 from table import requests
 
 LINES = 300_000
@@ -33,8 +33,7 @@ def compare_answers(folder):
 def build_proved():
     """Proves and builds the programs where that isn't done, so that they note nothing of it later."""
     for name, *words in PROGRAMS:
-        if answers_of(os.path.join(TOP, name), words=words)[2] != 0:
-            fail(f"./{name} wasn't built")
+        expect(answers_of(os.path.join(TOP, name), words=words)[2] == 0, f"./{name} wasn't built")
 
 
 def compare_arguments(native):
@@ -42,8 +41,7 @@ def compare_arguments(native):
     for name in ("wgsl_check", "wgsl"):
         for words in (["--version"], ["--help"], ["-h"], ["ask", "--help"], ["ask", "x"], ["x"], [""], ["--version", "x"]):
             ours, proved = (answers_of(os.path.join(top, name), words=words) for top in (native, TOP))
-            if ours[2] != proved[2] or words == ["--version"] and ours[0] != proved[0]:
-                fail(f"{name} {words}: {ours}, not {proved}")
+            expect(ours[2] == proved[2] and (words != ["--version"] or ours[0] == proved[0]), f"{name} {words}: {ours}, not {proved}")
     print("arguments have the statuses of the proved programs")
 
 
@@ -70,8 +68,7 @@ def compare(name, ours, theirs, given):
         return
     for kind, a, b in zip(("answers", "notes"), ours, theirs):
         for number, (x, y) in enumerate(zip(a.split(b"\n"), b.split(b"\n"))):
-            if x != y:
-                fail(f"{name}: line {number + 1} of the {kind} is {x!r}, not {y!r}")
+            expect(x == y, f"{name}: line {number + 1} of the {kind} is {x!r}, not {y!r}")
     fail(f"{name}: status {ours[2]}, not {theirs[2]}, or one printed more, for {given[:200]!r}")
 
 

@@ -4,6 +4,8 @@ import glob
 import os
 import re
 
+from programs import read
+
 LEXER = re.compile(
     r"""//[^\n]*|/\*.*?\*/|\s+|(b?"(?:[^"\\]|\\.)*"|b?'(?:[^'\\\n]|\\(?:x..|u\{[^}]*\}|.))'|'\w+|\w+|::|.)""", re.S)
 DATA = ["Clone", "Debug", "PartialEq", "Eq", "Hash"]
@@ -131,10 +133,7 @@ class Source:
 
     def __init__(self, path, made, crate):
         self.path, self.crate = path, crate
-        with open(path, encoding="utf-8") as file:
-            self.tokens, self.lines = lex(file.read())
-        with open(made, encoding="utf-8") as file:
-            self.made, _ = lex(file.read())
+        (self.tokens, self.lines), (self.made, _) = lex(read(path)), lex(read(made))
 
     def fault(self, made, written_out):
         """Where the source and tokens of Rust differ by more than they must, in words."""
@@ -147,9 +146,7 @@ class Source:
 
 def sources(crates, made):
     """The sources of the crates that were made into Rust, and what was made of each."""
-    with open(os.path.join(made, "proved.rs"), encoding="utf-8") as file:
-        names = re.findall(r"^pub mod (\w+);$", file.read(), re.M)
-    for name in names:
+    for name in re.findall(r"^pub mod (\w+);$", read(made, "proved.rs"), re.M):
         top = os.path.join(crates, name, "src")
         for path in sorted(glob.glob(os.path.join(top, "**", "*.rt"), recursive=True)):
             inner = os.path.relpath(path, top)[:-3]

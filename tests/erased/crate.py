@@ -7,7 +7,7 @@ import subprocess
 import tarfile
 
 from erased.tools import cargo
-from programs import TOP, ask, end, fail, read, write
+from programs import TOP, ask, end, expect, fail, read, write
 
 MANIFEST = """[package]
 name = "user"
@@ -66,13 +66,11 @@ def check_oldest(folder):
 def has_no_dependency(folder):
     packages = json.loads(cargo(folder, "metadata", "--format-version=1"))["packages"]
     others = [package["name"] for package in packages if package["source"]]
-    if others:
-        fail(f"the packages here depend on {others}")
+    expect(not others, f"the packages here depend on {others}")
 
 
 def has_no_unsafe_code():
-    if "#![forbid(unsafe_code)]" not in read("native", "lib.rs"):
-        fail("native/lib.rs doesn't forbid unsafe code")
+    expect("#![forbid(unsafe_code)]" in read("native", "lib.rs"), "native/lib.rs doesn't forbid unsafe code")
 
 
 def run_user(folder, name, dependency, program):
@@ -89,8 +87,7 @@ def check_first_page(folder):
     shown = re.search(r"^```rust\n(.*?)^```\n\nIt prints (.*?)\. ", read("README.md"), re.DOTALL | re.MULTILINE)
     program, printed = shown.groups()
     lines = run_user(folder, "user", f'wgsl-types-proved = {{ path = "{TOP}" }}', program).splitlines()
-    if lines != re.findall(r"`([^`]*)`", printed):
-        fail(f"the program of README.md prints {lines}")
+    expect(lines == re.findall(r"`([^`]*)`", printed), f"the program of README.md prints {lines}")
     print("the program of README.md prints what it says")
 
 
@@ -105,6 +102,5 @@ def check_package(folder):
     cargo(folder, "build", "--quiet", top=top, **settings)
     program = os.path.join(folder, "from_package", "debug", "wgsl_check")
     answers = ask([program], ["binary + AbstractInt vec 3 f32"])
-    if answers != ["vec3<f32>"]:
-        fail(f"the program that was built from the package printed {answers}")
+    expect(answers == ["vec3<f32>"], f"the program that was built from the package printed {answers}")
     print(f"{os.path.basename(package)} is built from itself alone, {os.path.getsize(package) // 1024} KiB")

@@ -4,7 +4,7 @@ import random
 
 from erased.compare import changed, sources, written_out
 from erased.tools import made_by_build_script
-from programs import TOP, fail
+from programs import TOP, expect, fail
 
 CHANGES = 1000
 
@@ -14,8 +14,7 @@ def compare_sources(folder):
     found = list(sources(os.path.join(TOP, "crates"), made))
     others = written_out(found)
     faults = [fault for source in found if (fault := source.fault(source.made, others))]
-    if faults:
-        fail("\n".join(faults[:20]))
+    expect(not faults, "\n".join(faults[:20]))
     count = sum(len(source.made) for source in found)
     print(f"{len(found)} sources and the {count} tokens of Rust made of them differ by nothing else than they must")
     see_changes(found, others)

@@ -3,15 +3,14 @@ import json
 import os
 import subprocess
 
-from programs import TOP, end, fail
+from programs import TOP, end, expect, fail
 
 
 def cargo(folder, *words, top=TOP, may_warn=True, **settings):
     """What a command of cargo prints. What it makes goes into a folder. It has no network."""
     environment = {"CARGO_TARGET_DIR": os.path.join(folder, "target"), "CARGO_TERM_COLOR": "never", **settings}
     done = end("cargo", words[0], "--offline", *words[1:], where=top, **environment)
-    if not may_warn and "warning" in done.stderr:
-        fail(f"`cargo {' '.join(words)}` warns:\n{done.stderr[-4000:]}")
+    expect(may_warn or "warning" not in done.stderr, f"`cargo {' '.join(words)}` warns:\n{done.stderr[-4000:]}")
     return done.stdout
 
 

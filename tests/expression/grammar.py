@@ -1,5 +1,6 @@
 """Expressions by WGSL's grammar, a function for each of its rules: what `type EXPRESSION` has to read."""
 import re
+from collections import namedtuple
 
 TOKEN = re.compile(
     r"(?P<comment>/\*.*?\*/|//.*)|(?P<open>/\*)"
@@ -26,11 +27,13 @@ class NoExpression(Exception):
     """A text that is no expression."""
 
 
-class Node:
-    """A part of an expression: the index of its first byte, what it is, and its parts."""
+def ensure(is_one):
+    if not is_one:
+        raise NoExpression
 
-    def __init__(self, at, kind, what, parts=()):
-        self.at, self.kind, self.what, self.parts = at, kind, what, list(parts)
+
+# A part of an expression: the index of its first byte, what it is, and its parts.
+Node = namedtuple("Node", "at kind what parts", defaults=[()])
 
 
 def literal(text):
@@ -40,8 +43,7 @@ def literal(text):
 class Reader:
     def __init__(self, text):
         found = [(m.group(), m.start(), m.lastgroup) for m in TOKEN.finditer(text)]
-        if any(kind == "open" for _, _, kind in found):
-            raise NoExpression
+        ensure(not any(kind == "open" for _, _, kind in found))
         self.tokens = [token for token in found if token[2] != "comment"]
         self.taken = 0
         self.operands = []  # where the types begin and end that stand for operands
@@ -57,8 +59,7 @@ class Reader:
         return None
 
     def expect(self, text):
-        if not self.take(text):
-            raise NoExpression
+        ensure(self.take(text))
 
     def operator(self):
         """The binary operator that comes next, and how many tokens it has."""
@@ -68,20 +69,24 @@ class Reader:
             return text + more, 2
         return text, 1
 
+    def one_binary(self, operators, left, right):
+        """The operator of a rule that comes next with what stands right of it, or else the left operand alone."""
+        text, count = self.operator()
+        if text not in operators:
+            return left
+        at = self.next()[1]
+        self.taken += count
+        return Node(at, "binary", text, [left, right()])
+
     def binary(self, operators, left, right):
-        """Operators of a rule with what stands right of each, as long as they come."""
-        while True:
-            text, count = self.operator()
-            if text not in operators:
-                return left
-            at = self.next()[1]
-            self.taken += count
-            left = Node(at, "binary", text, [left, right()])
+        """Such operators, as long as they come."""
+        while (found := self.one_binary(operators, left, right)) is not left:
+            left = found
+        return left
 
     def whole(self):
         expression = self.expression()
-        if self.taken < len(self.tokens):
-            raise NoExpression
+        ensure(self.taken >= len(self.tokens))
         return expression
 
     def expression(self):
@@ -96,21 +101,10 @@ class Reader:
         return left
 
     def relational(self, first):
-        left = self.shift(first)
-        text, count = self.operator()
-        if text not in RELATIONAL:
-            return left
-        at = self.next()[1]
-        self.taken += count
-        return Node(at, "binary", text, [left, self.shift(self.unary())])
+        return self.one_binary(RELATIONAL, self.shift(first), lambda: self.shift(self.unary()))
 
     def shift(self, first):
-        text, count = self.operator()
-        if text not in ("<<", ">>"):
-            return self.additive(first)
-        at = self.next()[1]
-        self.taken += count
-        return Node(at, "binary", text, [first, self.unary()])
+        return self.one_binary(("<<", ">>"), first, self.unary) if self.operator()[0] in ("<<", ">>") else self.additive(first)
 
     def additive(self, first):
         return self.binary(("+", "-"), self.multiplicative(first), lambda: self.multiplicative(self.unary()))
@@ -133,8 +127,7 @@ class Reader:
                 x = Node(bracket[1], "index", None, [x, index])
             elif self.take("."):
                 text, at, kind = self.next()
-                if kind != "name":
-                    raise NoExpression
+                ensure(kind == "name")
                 self.taken += 1
                 x = Node(at, "member", text, [x])
             else:
@@ -148,8 +141,7 @@ class Reader:
             self.expect(")")
             return x
         if kind == "number":
-            if not literal(text):
-                raise NoExpression
+            ensure(literal(text))
             return Node(at, "operand", (literal(text), True))
         if text in ("true", "false"):
             return Node(at, "operand", ("bool", True))
@@ -157,8 +149,7 @@ class Reader:
             name, _, _ = self.next()
             self.taken += 1
             return self.operand(at, (name, self.list(name)), True)
-        if kind != "name" or text == "const":
-            raise NoExpression
+        ensure(kind == "name" and text != "const")
         named = text, self.list(text)
         if not self.take("("):
             return self.operand(at, named, False)
@@ -186,12 +177,10 @@ class Reader:
         for behind in range(1, len(self.tokens) - self.taken):
             text, _, kind = self.next(behind)
             if text == ">" and depth == 0:
-                if not is_list:
-                    raise NoExpression
+                ensure(is_list)
                 self.taken += behind + 1
                 text = "".join(texts).replace(", >", ">").removesuffix(", ")
-                if any(not SIZES.fullmatch(size) for size in SIZED.findall(f"{name}<{text}")):
-                    raise NoExpression
+                ensure(not any(not SIZES.fullmatch(size) for size in SIZED.findall(f"{name}<{text}")))
                 return text
             if text not in ("<", ">", ",") and kind not in ("name", "number"):
                 return None

@@ -10,7 +10,7 @@ sys.path.insert(1, os.path.dirname(os.path.dirname(os.path.abspath(__file__))))
 from erased.tools import cargo  # noqa: E402, beside the parts of tests/native
 from forms.form_requests import answer  # noqa: E402
 from forms.random_requests import random_requests  # noqa: E402
-from programs import fail, tell, write  # noqa: E402
+from programs import expect, tell, write  # noqa: E402
 from table import texts  # noqa: E402
 
 COUNT = 100_000
@@ -31,10 +31,9 @@ def differing():
 
 def check_forms(folder):
     faults = list(differing())
-    if faults:
-        fail("\n".join(faults))
+    expect(not faults, "\n".join(faults))
     asked = "".join(f"{request}\t{answer(request)}\n" for request in random_requests(COUNT))
-    cargo(folder, "test", "--quiet", "--test", "forms", QUESTIONS=write(asked, folder, "questions.txt"))
+    cargo(folder, "test", "--quiet", "--test", "tests", "forms::", QUESTIONS=write(asked, folder, "questions.txt"))
     print(f"the rules in tests/forms answer {len(questions())} questions as a browser does, and the crate {COUNT} random ones alike")
 
 

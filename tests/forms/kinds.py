@@ -33,21 +33,12 @@ def is_runtime_sized(t):
     return name == "array" and len(parts) == 1
 
 
-def is_array(t):
-    return parts_of(t)[0] == "array"
+def of_kind(name):
+    """Whether a type has this name in front of its list. A `binding_array`, which is naga's, is neither constructible nor stored."""
+    return lambda t: parts_of(t)[0] == name
 
 
-def is_binding_array(t):
-    """One of naga's arrays, which is neither constructible nor stored."""
-    return parts_of(t)[0] == "binding_array"
-
-
-def is_atomic(t):
-    return parts_of(t)[0] == "atomic"
-
-
-def is_pointer(t):
-    return parts_of(t)[0] == "ptr"
+is_array, is_binding_array, is_atomic, is_pointer = map(of_kind, ("array", "binding_array", "atomic", "ptr"))
 
 
 def is_handle(t):

@@ -16,6 +16,11 @@ class Refused(Exception):
         super().__init__(f"{name}({', '.join(map(str, fields))})" if fields else name)
 
 
+def ensure(holds, *refusal):
+    if not holds:
+        raise Refused(*refusal)
+
+
 # Memory
 
 def memory_of(t):
@@ -56,10 +61,8 @@ def load(t):
     if not is_reference(t):
         return t
     _, inner, access = memory_of(t)
-    if access not in READING:
-        raise Refused("NotRead")
-    if not is_constructible(inner) and not is_handle(inner):
-        raise Refused("NotConstructible", inner)
+    ensure(access in READING, "NotRead")
+    ensure(is_constructible(inner) or is_handle(inner), "NotConstructible", inner)
     return inner
 
 
@@ -96,8 +99,7 @@ def part_at_index(t):
 
 def integer(t):
     loaded = load(t)
-    if loaded not in ("i32", "u32", "AbstractInt"):
-        raise Refused("NotInteger", loaded)
+    ensure(loaded in ("i32", "u32", "AbstractInt"), "NotInteger", loaded)
     return loaded
 
 
@@ -114,21 +116,18 @@ def index(x, i):
 def named_value(t):
     """What a `let` without a type, or a phony assignment, takes."""
     loaded = load(t)
-    if not can_be_named_value(loaded):
-        raise Refused("NotConstructible", loaded)
+    ensure(can_be_named_value(loaded), "NotConstructible", loaded)
     return concrete(loaded)
 
 
 def accept(declared, is_accepted):
     """A type that is written: it is concrete, and accepted there."""
-    if is_abstract(declared) or not is_accepted(declared):
-        raise Refused("NotConstructible", declared)
+    ensure(not is_abstract(declared) and is_accepted(declared), "NotConstructible", declared)
 
 
 def initialize(declared, x):
     loaded = load(x.type)
-    if not converts(loaded, declared):
-        raise Refused("Conversion", loaded, declared)
+    ensure(converts(loaded, declared), "Conversion", loaded, declared)
     return declared
 
 
@@ -140,8 +139,7 @@ def let(x, declared):
 
 
 def be_constant(x):
-    if not is_constant(x):
-        raise Refused("NotConst")
+    ensure(is_constant(x), "NotConst")
 
 
 def const(x, declared):
@@ -149,8 +147,7 @@ def const(x, declared):
     if declared is not None:
         accept(declared, is_constructible)
         return initialize(declared, x)
-    if not is_constructible(x.type):
-        raise Refused("NotConstructible", x.type)
+    ensure(is_constructible(x.type), "NotConstructible", x.type)
     return x.type
 
 
@@ -158,8 +155,7 @@ def override(x, declared):
     if x is not None:
         be_constant(x)
     t = concrete(x.type) if declared is None else declared
-    if t not in ("bool", "i32", "u32", "f32", "f16"):
-        raise Refused("NotScalar", t)
+    ensure(t in ("bool", "i32", "u32", "f32", "f16"), "NotScalar", t)
     return t if x is None else initialize(t, x)
 
 
@@ -210,19 +206,15 @@ def holds(space, access, t):
 
 
 def hold(space, access, t):
-    if not holds(space, access, t):
-        if space in ("function", "private"):
-            raise Refused("NotConstructible", t)
-        raise Refused("NotInSpace", space, t)
+    refusal = ["NotConstructible"] if space in ("function", "private") else ["NotInSpace", space]
+    ensure(holds(space, access, t), *refusal, t)
 
 
 def variable(space, access, x, declared):
     space = space or "function"
-    if access is not None and (space != "storage" or access not in ("read", "read_write")):
-        raise Refused("AccessMode", space, access)
+    ensure(access is None or (space == "storage" and access in ("read", "read_write")), "AccessMode", space, access)
     access = access or default_access(space)
-    if x is not None and space not in ("function", "private"):
-        raise Refused("Initialized", space)
+    ensure(x is None or space in ("function", "private"), "Initialized", space)
     if x is not None and space == "private":
         be_constant(x)
     t = concrete(load(x.type)) if declared is None else declared
@@ -236,24 +228,20 @@ def variable(space, access, x, declared):
 
 def store_type(x, accesses, refusal):
     """The type that the reference refers to."""
-    if not is_reference(x):
-        raise Refused("NotReference", x)
+    ensure(is_reference(x), "NotReference", x)
     _, t, access = memory_of(x)
-    if access not in accesses:
-        raise Refused(refusal)
+    ensure(access in accesses, refusal)
     return t
 
 
 def assign(x, y):
     t = store_type(x, WRITING, "NotWrite")
-    if not is_constructible(t):
-        raise Refused("NotConstructible", t)
+    ensure(is_constructible(t), "NotConstructible", t)
     return write(t, load(y.type))
 
 
 def write(t, value):
-    if not converts(value, t):
-        raise Refused("WriteRefType", value, t)
+    ensure(converts(value, t), "WriteRefType", value, t)
     return t
 
 
@@ -273,10 +261,8 @@ def assign_by(operator, x, y):
     t = store_type(x, ["read_write"], "NotReadWrite")
     value = loaded_if_it_loads(y.type)
     result = overloads().answer(operator, None, [t, value], False)
-    if result == "no overload":
-        raise Refused("Binary", operator, t, value)
-    if result != t:
-        raise Refused("WriteRefType", result, t)
+    ensure(result != "no overload", "Binary", operator, t, value)
+    ensure(result == t, "WriteRefType", result, t)
     return t
 
 
@@ -284,22 +270,19 @@ def assign_by(operator, x, y):
 
 def increment(x):
     t = store_type(x, ["read_write"], "NotReadWrite")
-    if t not in ("i32", "u32"):
-        raise Refused("NotInteger", t)
+    ensure(t in ("i32", "u32"), "NotInteger", t)
     return t
 
 
 # Function calls, `return`, conditions
 
 def count(name, types, operands):
-    if len(types) != len(operands):
-        raise Refused("ParamCount", name, len(types), len(operands))
+    ensure(len(types) == len(operands), "ParamCount", name, len(types), len(operands))
 
 
 def pass_each(operands, types):
     for x, t in zip(operands, types):
-        if not converts(load(x.type), t):
-            raise Refused("ParamType", t, load(x.type))
+        ensure(converts(load(x.type), t), "ParamType", t, load(x.type))
 
 
 def fit(name, operands, types):
@@ -311,16 +294,14 @@ def fit(name, operands, types):
 
 
 def condition(x):
-    if load(x.type) != "bool":
-        raise Refused("NotCondition", load(x.type))
+    ensure(load(x.type) == "bool", "NotCondition", load(x.type))
     return "fits"
 
 
 # Structure and array constructors
 
 def construct(t, operands):
-    if not is_constructible(t):
-        raise Refused("NotConstructible", t)
+    ensure(is_constructible(t), "NotConstructible", t)
     if operands:
         members = [of for _, of in STRUCTS[t]]
         count(t, members, operands)
@@ -330,13 +311,10 @@ def construct(t, operands):
 
 def array_of_elements(operands):
     loaded = [load(x.type) for x in operands]
-    if not loaded:
-        raise Refused("Builtin", "array constructor expects at least 1 argument")
+    ensure(loaded, "Builtin", "array constructor expects at least 1 argument")
     t = common_type(loaded)
-    if t is None:
-        raise Refused("Builtin", "array elements are incompatible")
-    if not is_constructible(t):
-        raise Refused("NotConstructible", t)
+    ensure(t is not None, "Builtin", "array elements are incompatible")
+    ensure(is_constructible(t), "NotConstructible", t)
     return f"array<{t}, {len(loaded)}>"
 
 
@@ -357,25 +335,20 @@ def switch(selector, *cases):
         be_constant(case)
     first, *others = [t for t in types if t != "AbstractInt"] or ["i32"]
     for t in others:
-        if t != first:
-            raise Refused("Conversion", t, first)
+        ensure(t == first, "Conversion", t, first)
     return first
 
 
 # Address-Of and Indirection Expressions
 
 def address_of(x, is_component):
-    if not is_reference(x):
-        raise Refused("Unary", "&", x)
+    ensure(is_reference(x), "Unary", "&", x)
     space, t, access = memory_of(x)
-    if space == "handle":
-        raise Refused("PtrHandle")
-    if is_component:
-        raise Refused("PtrVecComp")
+    ensure(space != "handle", "PtrHandle")
+    ensure(not is_component, "PtrVecComp")
     return f"ptr<{space}, {t}, {access}>"
 
 
 def indirection(x):
-    if not is_pointer(x):
-        raise Refused("Unary", "*", x)
+    ensure(is_pointer(x), "Unary", "*", x)
     return formed(x, behind(x))

@@ -9,7 +9,7 @@ from linked.library import RULED_OUT, Library
 from linked.python_module import check_python, check_python_folders
 from linked.statuses import check_statuses
 from linked.tools import LINKED, WARNINGS, answers_and_notes, compare_both, compile_c, compile_cpp, expect_shown, write_shown
-from programs import ASK, BINDINGS, CHECK, TOP, are_there, fail, read, run
+from programs import ASK, BINDINGS, CHECK, TOP, are_there, expect, fail, read, run
 from table import requests as listed
 
 # How many calls by WGSL's own rules are asked, and short requests whose allocations are counted.
@@ -47,12 +47,10 @@ def check_symbols(folder):
     """Nothing is seen from outside but the calls, and nothing is writable but a byte of heap.o."""
     static, shared = (os.path.join(folder, name) for name in ("libwgsl.a", "libwgsl.so"))
     for names in (names_in(static), names_in("-D", shared)):
-        if names != CALLS:
-            fail(f"the library has the names {names}")
+        expect(names == CALLS, f"the library has the names {names}")
     symbols = [line.split() for line in run("nm", static).splitlines()]
     writable = [words[-1] for words in symbols if len(words) == 3 and words[1] in "BbCDdGgSsu"]
-    if writable != ["nothing"]:
-        fail(f"libwgsl.a has writable symbols: {writable}")
+    expect(writable == ["nothing"], f"libwgsl.a has writable symbols: {writable}")
     sizes = run("size", "-t", static).splitlines()
     print(f"link: {len(CALLS)} symbols are seen, one byte is writable, {sizes[-1].split()[0]} bytes are code and constants")
 
@@ -66,12 +64,10 @@ def check_version(folder):
     run("cc", *WARNINGS, "-I", folder, "-o", built, source, "-L", folder, "-lwgsl")
     printed = run(compile_c(folder, source, "beside")) + run(built, LD_LIBRARY_PATH=folder)
     others += printed.split()
-    if others != [version] * 5:
-        fail(f"the versions are {version} and {others}")
+    expect(others == [version] * 5, f"the versions are {version} and {others}")
     major, minor, _ = version.split(".")
     needed = f"libwgsl.so.{f'0.{minor}' if major == '0' else major}"
-    if needed not in run("readelf", "-d", built):
-        fail(f"a program with the shared library doesn't need {needed}")
+    expect(needed in run("readelf", "-d", built), f"a program with the shared library doesn't need {needed}")
     print(f"link: the version is {version}, and a program that has `rattle_alloc` itself links and finds {needed}")
 
 
@@ -126,8 +122,7 @@ def count_short(program, short):
     known = dict(zip(asked, counts, strict=True))
     for question, wanted in short:
         wanted = known.get(wanted, wanted)
-        if known[question] != wanted:
-            fail(f"{question} allocates {known[question]} times, not {wanted}")
+        expect(known[question] == wanted, f"{question} allocates {known[question]} times, not {wanted}")
     return counts
 
 
@@ -139,8 +134,7 @@ def messages():
     paths.append(os.path.join("wgsl_calls", "src", "**", "*.rt"))
     texts = ["no overload of ", "nothing has the name ", "`", "column "]
     for path in (path for each in paths for path in glob.glob(os.path.join(TOP, "crates", each), recursive=True)):
-        with open(path, encoding="utf-8") as file:
-            texts += [text.split("{")[0] for text in re.findall(r'"([^"\n]* [^"\n]*)"', file.read())]
+        texts += [text.split("{")[0] for text in re.findall(r'"([^"\n]* [^"\n]*)"', read(path))]
     return tuple(text for text in texts if text)
 
 
@@ -163,8 +157,7 @@ def check_standard_text(library, swept):
         text, why = library.text("standard_answer", line), library.text("standard_explain", line)
         if why == "no words":
             continue
-        if (text is None) == (why is None):
-            fail(f"{line[:1000]} is answered by {text}, and explained by {why}")
+        expect((text is None) != (why is None), f"{line[:1000]} is answered by {text}, and explained by {why}")
         printed.append(f"{text}\n" if why is None else f"bad line {number}\n")
         notes += [] if why is None else [f"line {number}: {why}\n"]
     compare_both("the library, by WGSL's own rules", wanted, ("".join(printed).encode(), "".join(notes).encode()))

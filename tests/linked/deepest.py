@@ -3,7 +3,7 @@ import os
 
 from linked.library import ANSWERED, UNREADABLE
 from linked.tools import LINKED, compile_c
-from programs import fail, run
+from programs import expect, fail, run
 from table import listed, texts
 
 TABLE = "tables/stack.tsv"
@@ -48,12 +48,10 @@ def check_stack(folder):
     printed = run(compile_c(folder, os.path.join(LINKED, "stack.c"), "stack"), asked="".join(f"{line}\n" for line in lines))
     found = [tuple(map(int, line.split())) for line in printed.splitlines()]
     for line, (taken, promised, _) in zip(lines, found, strict=True):
-        if taken > promised / 2:
-            fail(f"{line:.200} takes {taken} bytes of stack")
+        expect(taken <= promised / 2, f"{line:.200} takes {taken} bytes of stack")
     statuses = iter([status for *_, status in found])
     for (first, text, is_read), answered, explained in zip(asked, statuses, statuses):
         if answered > UNREADABLE - is_read or (explained == ANSWERED) != (answered == UNREADABLE):
             fail(f"{first}answer {text:.200} has the status {answered}, and is explained with {explained}")
-    if set(statuses) != {ANSWERED}:
-        fail("a text isn't answered")
+    expect(set(statuses) == {ANSWERED}, "a text isn't answered")
     print(f"link: {len(asked)} requests and {len(deepest)} texts take {max(taken for taken, *_ in found)} bytes of stack at most")

@@ -2,7 +2,7 @@
 import ctypes
 import os
 
-from programs import fail
+from programs import expect
 
 CALLS = "answer explain standard_answer standard_explain source_layout module_check".split()
 BYTE = ctypes.c_uint8
@@ -35,8 +35,7 @@ class Library:
         count = self.len.value if status in (ANSWERED, RULED_OUT) else 0
         reply = bytes(self.room[:count])
         ctypes.memset(self.room, FILL, count)
-        if self.room[count] != FILL or self.room[ROOM - 1] != FILL:
-            fail(f"{name} {asked[:1000]} writes more than its reply")
+        expect(self.room[count] == FILL and self.room[ROOM - 1] == FILL, f"{name} {asked[:1000]} writes more than its reply")
         return status, reply
 
     def text(self, name, asked):

@@ -9,7 +9,6 @@ from overloads.facts import read_facts
 from spelling import SCALARS, STRUCTS
 
 CALLED, PAIRS, LISTS = 20000, 5000, 2000
-SHORT = {"i": "i32", "u": "u32", "f": "f32", "h": "f16"}
 
 
 def outcome(ask, *given, **named):
@@ -81,14 +80,6 @@ def compare_types():
         expect_same(f"common {', '.join(some)}", wgsl.common(iter(some)))
 
 
-def compare_aliases():
-    """Aliases that WGSL predeclares."""
-    same = [(f"vec{n}{s}", f"vec{n}<{SHORT[s]}>") for n in "234" for s in SHORT]
-    same += [(f"mat{c}x{r}{s}", f"mat{c}x{r}<{SHORT[s]}>") for c in "234" for r in "234" for s in "fh"]
-    for alias, spelled in same:
-        expect(wgsl.common([alias, spelled]) == spelled, f"{alias} is no {spelled}")
-
-
 def compare_source():
     """A text, and its bytes, whatever letters are in it."""
     for text in ("struct ß { a: f32 }", "struct 漢 { ö: f32 }"):
@@ -135,7 +126,6 @@ def compare_rare():
 
 compare_calls()
 compare_types()
-compare_aliases()
 compare_source()
 compare_check()
 compare_notes()

@@ -77,14 +77,14 @@ def check_copies():
 
 
 def check_aliases():
-    """A constructor's alias is its name with a template, also in what is refused."""
+    """An alias is its name with a template, as a type, as a constructor, and in what is refused."""
     scalars, asked = {"i": "i32", "u": "u32", "f": "f32", "h": "f16"}, []
     asked += [(f"vec{n}", s, [scalars[s]] * int(n)) for n in "234" for s in scalars]
     asked += [(f"mat{c}x{r}", s, [f"vec{r}<{scalars[s]}>"] * int(c)) for c in "234" for r in "234" for s in "fh"]
     for name, letter, operands in asked:
         alias, scalar = name + letter, scalars[letter]
         found = wgsl.construct(alias, operands)
-        expect(found == f"{name}<{scalar}>", f"{alias} of {operands} makes {found}")
+        expect(found == f"{name}<{scalar}>" == wgsl.common([alias, found]), f"{alias} of {operands} makes {found}")
         refused = [raised(wgsl.Refused, wgsl.construct, given) for given in ((alias, ["sampler"]), (name, ["sampler"], scalar))]
         expect(str(refused[0]) == str(refused[1]) and refused[0].notes == refused[1].notes != [], f"{alias} of a sampler raises {refused[0]!r}")
     for given in (("vec3f", ["f32"], "f32"), ("mat2x2i", []), ("vec5f", []), ("vec3fh", []), ("avec3f", [])):

@@ -5,7 +5,7 @@ import sys
 
 from linked.source_calls import MODULES, bytes_of, program_json
 from linked.tools import LINKED, answers_and_notes, compare_both, expect_shown, failure, write_shown
-from programs import BINDINGS, TESTS, end, fail, read, run, write
+from programs import BINDINGS, TESTS, end, expect, fail, read, run, write
 
 FOLDER = os.path.join(BINDINGS, "python")
 PROGRAM = [sys.executable, "-B", "-m", "wgsl"]
@@ -44,10 +44,8 @@ def check_json(where):
             shown = json.dumps(told, ensure_ascii=False, indent=2) + "\n"
             if done.stdout.decode() != shown or done.stderr.decode() != "".join(notes):
                 fail(f"in Python the layouts of {path} are {done.stdout}, and {done.stderr}")
-    if "No such file" not in failure(*PROGRAM, "--json", "none", status=2, **where):
-        fail("python -m wgsl doesn't say that a file isn't there")
-    if run(*PROGRAM, "--version", **where) != f"wgsl {read('VERSION')}":
-        fail("python -m wgsl says another version")
+    expect("No such file" in failure(*PROGRAM, "--json", "none", status=2, **where), "python -m wgsl doesn't say that a file isn't there")
+    expect(run(*PROGRAM, "--version", **where) == f"wgsl {read('VERSION')}", "python -m wgsl says another version")
     print(f"link: Python prints the layouts of {len(MODULES)} files")
 
 
@@ -80,9 +78,7 @@ def check_python_folders(top):
     ]
     for given, why in wrong:
         raised = failure(sys.executable, "-c", "import wgsl", where=top, **given, **FOUND)
-        if raised.count("Traceback") != 1 or raised.splitlines()[-1] != f"ImportError: {why}":
-            fail(f"with {given} Python raises {raised}")
+        expect(raised.count("Traceback") == 1 and raised.splitlines()[-1] == f"ImportError: {why}", f"with {given} Python raises {raised}")
         said = failure(*PROGRAM, where=top, **given, **FOUND)
-        if said.splitlines()[-1] != f"ImportError: {why}":
-            fail(f"with {given} python -m wgsl writes {said}")
+        expect(said.splitlines()[-1] == f"ImportError: {why}", f"with {given} python -m wgsl writes {said}")
     print(f"link: {len(wrong)} wrong values of WGSL_LIB are told in Python")

@@ -5,7 +5,7 @@ import os
 import random
 
 from linked.library import UNREADABLE
-from programs import TESTS, TOP, fail, run
+from programs import TESTS, TOP, expect, fail, run
 
 SOURCED = os.path.join(TESTS, "sourced")
 MODULES = sorted(glob.glob(os.path.join(SOURCED, "*.wgsl")))
@@ -37,8 +37,7 @@ def bytes_of(path):
 def json_of(library, text, call="source_layout"):
     """The JSON that a call writes of a text."""
     status, told = library.ask(call, text)
-    if status:
-        fail(f"{call} of {text[:200]} has status {status}")
+    expect(not status, f"{call} of {text[:200]} has status {status}")
     return told
 
 
@@ -56,8 +55,7 @@ def texts():
 def compare_modules(library):
     for text in texts():
         for call in JSON:
-            if json_of(library, text, call) != program_json(text, call):
-                fail(f"{call} of {text[:200]} in C writes something else than the program")
+            expect(json_of(library, text, call) == program_json(text, call), f"{call} of {text[:200]} in C writes something else than the program")
     return len(texts())
 
 
@@ -70,8 +68,7 @@ def compare_checked(library):
         told = json.loads(json_of(library, text, "module_check"))
         found = [(it["kind"], place(it), place(it["end"])) for it in told["faults"]]
         typed = [(it["type"], it["stage"], place(it), place(it["end"]), place(it["declared"])) for it in told["types"]]
-        if (found, typed, told["file"]) != (faults, types, ""):
-            fail(f"the check of {text} has the faults {found} and the types {typed}")
+        expect((found, typed, told["file"]) == (faults, types, ""), f"the check of {text} has the faults {found} and the types {typed}")
 
 
 def compare_code(library):
@@ -82,8 +79,7 @@ def compare_code(library):
             status, code = library.ask("source_code", bytes_of(path), language)
             if status != bool(told["errors"]) or code != run(os.path.join(TOP, "wgsl"), "layout", option, path, asked=b"", statuses=(0, 1)):
                 fail(f"the code {option} of {path} in C is another than that of the program, with status {status}")
-        if library.ask("source_code", bytes_of(path), 4) != (UNREADABLE, b""):
-            fail("there is a fifth language")
+        expect(library.ask("source_code", bytes_of(path), 4) == (UNREADABLE, b""), "there is a fifth language")
 
 
 def compare_changed(library):
@@ -97,8 +93,7 @@ def compare_changed(library):
         for call in JSON:
             told = json_of(library, text, call)
             json.loads(told)
-            if index % COMPARED == 0 and told != program_json(text, call):
-                fail(f"{call} of {text} in C writes something else than the program")
+            expect(index % COMPARED != 0 or told == program_json(text, call), f"{call} of {text} in C writes something else than the program")
     return len(changed)
 
 

@@ -4,7 +4,7 @@ import sys
 
 from linked.python_module import FOUND, PROGRAM, check_python_statuses
 from linked.tools import LINKED, WARNINGS, compile_c, compile_cpp
-from programs import BINDINGS, are_there, compare, end, fail, run
+from programs import BINDINGS, are_there, compare, end, expect, fail, run
 from table import around_powers
 
 UNREADABLE, OUT_OF_MEMORY = 2, 3
@@ -32,8 +32,7 @@ def check_program(language, program, folder, **more):
     for needed in ("", " 1", " 256", " 257", " 5000"):
         asked = f"say a\nmemory{needed}\nsay b\n"
         printed = run(*program, asked=asked.encode(), statuses=(OUT_OF_MEMORY,), WGSL_LIB=folder, **more)
-        if printed != b"a\n":
-            fail(f"{language}, out of memory, prints {printed}")
+        expect(printed == b"a\n", f"{language}, out of memory, prints {printed}")
 
 
 def check_cpp_statuses(folder, headers):

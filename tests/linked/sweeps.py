@@ -2,7 +2,7 @@
 request is answered as the program answers it, and texts of WGSL as it is said here."""
 import json
 
-from programs import fail
+from programs import expect
 from table import around_powers, swept, texts
 
 LONGEST = 4096
@@ -41,6 +41,5 @@ def compare_source(library, longest=1 << 12):
             asked += 1
             status, told = library.ask("source_layout", text.encode())
             struct = json.loads(told)["structs"][0] if status == 0 else None
-            if not struct or struct["size"] != size:
-                fail(f"{text[:80]} .. of {len(text)} letters replies {status}, {told[:200]}")
+            expect(struct and struct["size"] == size, f"{text[:80]} .. of {len(text)} letters replies {status}, {told[:200]}")
     return asked

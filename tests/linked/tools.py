@@ -2,7 +2,7 @@
 import os
 import re
 
-from programs import TESTS, compare, end, fail, read, run, write
+from programs import TESTS, compare, end, expect, read, run, write
 
 LINKED = os.path.join(TESTS, "linked")
 WARNINGS = ["-O2", "-Wall", "-Wextra", "-Werror"]
@@ -44,5 +44,4 @@ def write_shown(language, path):
 
 
 def expect_shown(language, printed, wanted="vec3<f32>\n"):
-    if printed != wanted:
-        fail(f"the program in {language} of the documents prints {printed}")
+    expect(printed == wanted, f"the program in {language} of the documents prints {printed}")

@@ -1,10 +1,11 @@
 // A browser without a window, driven by the DevTools protocol over a pipe; and a server of one file. No package is needed.
+import assert from "node:assert/strict";
 import { spawn } from "node:child_process";
 import { createServer } from "node:http";
 import { mkdtempSync, readFileSync, rmSync } from "node:fs";
 import { tmpdir } from "node:os";
 import { join } from "node:path";
-import { after, before } from "node:test";
+import { after, afterEach, before } from "node:test";
 
 export async function openBrowser(program = process.env.BROWSER ?? "chromium", more = []) {
   const profile = mkdtempSync(join(tmpdir(), "page-"));
@@ -90,15 +91,17 @@ export async function serve(file) {
   return { url: `http://127.0.0.1:${server.address().port}/`, close: () => server.close() };
 }
 
-/** For the tests of a file: a server of PAGE, a browser, and how a page is opened there. */
+/** For the tests of a file: a server of PAGE, a browser, and how a page is opened there, in which no test may make an error. */
 export function started() {
-  const on = {
+  const pages = [], on = {
     async opened(look = {}, address = on.server.url) {
       const page = await on.browser.openPage(look);
+      pages.push(page);
       await page.goTo(new URL(address, on.server.url).href);
       return page;
     },
   };
+  afterEach(() => pages.splice(0).forEach(({ errors }) => assert.deepEqual(errors, [])));
   before(async () => Object.assign(on, { server: await serve(process.env.PAGE), browser: await openBrowser() }));
   after(async () => (await on.browser.close(), on.server.close()));
   return on;

@@ -78,7 +78,7 @@ testTables("shown.txt", async ([done, place, wanted], page) => {
   const [, step, what] = /^(\w*) ?([^]*)$/.exec(done);
   await STEPS[step]?.(page, what);
   assertIs(await shownAt(page, place), wanted, `${done} ${place}`);
-}, opened, ({ errors }) => assert.deepEqual(errors, []));
+}, opened);
 
 test("README's first example is the page's first, and its answers are README's", async () => {
   const page = await opened(), readme = readFileSync(join(TOP, "README.md"), "utf8");
@@ -146,7 +146,6 @@ test("a changed address is shown", async () => {
   }
   await page.run("history.back()");
   await page.until(`${texts(".struct h2")}.join() === "struct One" && source.value === "struct One { a: u32 }"`);
-  assert.deepEqual(page.errors, []);
 });
 
 test("the head says what the page is and that it is proved, with the repository, on a phone too", async () => {
@@ -238,5 +237,4 @@ test("the colours lie on the text, wherever it is scrolled to", async () => {
     await page.run(fill(long));
     assert.equal(await page.run("document.getElementById('colors').textContent === source.value"), true, long.slice(0, 5));
   }
-  assert.deepEqual(page.errors, []);
 });

@@ -15,7 +15,7 @@ function cellOf(cell) {
 }
 
 /** Makes the tests of a table: what is done with the cells of each row, behind what is done first. */
-export function testTables(name, useRow, begin = () => null, end = () => null) {
+export function testTables(name, useRow, begin = () => null) {
   for (const part of readFileSync(join(process.env.TOP, "tests/paged", name), "utf8").split(/^# /m).slice(1)) {
     const [title, ...rows] = part.replace(/\n$/, "").split("\n");
     const cells = [];
@@ -27,7 +27,6 @@ export function testTables(name, useRow, begin = () => null, end = () => null) {
     test(title, async () => {
       const begun = await begin();
       for (const row of cells) await useRow(row, begun);
-      end(begun);
     });
   }
 }

@@ -1,7 +1,6 @@
 //! What is wrong with a document, as the client shows it.
 
-use super::document::Document;
-use super::json::Json;
+use super::{document::Document, json::Json};
 use wgsl_types_proved::module::{Fault, Note};
 
 /// How many faults of a document are told.

@@ -3,8 +3,7 @@
 use super::json::Json;
 use super::lines::{starts_of_lines, Encoding};
 use super::mend::mended;
-use std::cell::OnceCell;
-use std::ops::Range;
+use std::{cell::OnceCell, ops::Range};
 use wgsl_types_proved::module::{check, Checked, Name, Rule};
 use wgsl_types_proved::reader::{tokens, Kind, Token};
 use wgsl_types_proved::source::{layouts, Layouts, Member};

@@ -3,10 +3,7 @@
 use super::document::{Document, Module};
 use super::json::Json;
 use std::ops::Range;
-use wgsl_types_proved::module::Stage;
-use wgsl_types_proved::predeclared::types;
-use wgsl_types_proved::standard::overloads;
-use wgsl_types_proved::Type;
+use wgsl_types_proved::{module::Stage, predeclared::types, standard::overloads, Type};
 
 /// How many overloads are shown.
 const MOST_OVERLOADS: usize = 8;

@@ -1,7 +1,6 @@
 //! JSON (RFC 8259): its values, read from a text and written.
 
-use std::fmt;
-use std::ops::Index;
+use std::{fmt, ops::Index};
 
 /// How deep lists and objects may nest.
 pub const MAX_DEPTH: usize = 128;

@@ -1,7 +1,6 @@
 //! Places of a document as the protocol counts them: lines, and characters in units of an encoding.
 
-use super::document::Document;
-use super::json::Json;
+use super::{document::Document, json::Json};
 use std::ops::Range;
 
 /// The units in which the characters of a line are counted.

@@ -3,9 +3,7 @@
 use super::document::Document;
 use super::json::Json;
 use super::mend::{mended, with_word};
-use wgsl_types_proved::module::check;
-use wgsl_types_proved::reader::Kind;
-use wgsl_types_proved::standard::Overload;
+use wgsl_types_proved::{module::check, reader::Kind, standard::Overload};
 
 /// The signatures of the call around a byte, that which fits first, or null. If the client reads no offsets, parameters have their texts.
 pub fn signature_help(document: &Document, byte: usize, has_offsets: bool) -> Json {

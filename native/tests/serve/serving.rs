@@ -1,6 +1,6 @@
 //! A client of `wgsl serve`.
 
-use crate::json::Json;
+use super::json::Json;
 use std::io::{BufRead, BufReader, Read, Write};
 use std::ops::Range;
 use std::process::{Child, ChildStdin, ChildStdout, Command, Stdio};

@@ -1,11 +1,7 @@
 //! Reads requests in WGSL, as the tests write them: operands are types, and no blank is missing. Beyond WGSL a struct stands
 //! with its members where a type does, and vectors and matrices have any numbers of components.
-// Each test that has this module uses a part of it.
-#![allow(dead_code)]
 
-use std::collections::HashMap;
-use std::fmt::Debug;
-use std::str::FromStr;
+use std::{collections::HashMap, fmt::Debug, str::FromStr};
 use wgsl_types_proved::inst::LiteralInstance;
 use wgsl_types_proved::requests::{standard_answer, Error};
 use wgsl_types_proved::standard::{type_builtin_fn, Operand};

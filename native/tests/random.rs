@@ -1,6 +1,4 @@
 //! Random types and calls, and the words of a request for them.
-// Each test that has this module uses a part of it.
-#![allow(dead_code)]
 
 use wgsl_types_proved::inst::LiteralInstance;
 use wgsl_types_proved::standard::Operand;
