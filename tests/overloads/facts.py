@@ -69,7 +69,8 @@ def read_facts():
 
 
 def repository_formats():
-    return {NAGA_NAMES.get(f, f) for f in re.findall(r'"(\w+)" => Some\(TexelFormat', read(TEXEL_FORMATS))}
+    table = re.search(r"TEXELS: .*?\{(.*?)\}", read(TEXEL_FORMATS), re.DOTALL)[1]
+    return {NAGA_NAMES.get(f, f) for f in re.findall(r'"(\w+)"', table)}
 
 
 def repository_functions():

@@ -1,10 +1,15 @@
 -- How the values of an enumeration are named, and how a name is parsed (WGSL, "Context-Dependent Names").
 use Rattle.std.specs.Prelude.{◌≡◌, ◌≢◌, ◌↔◌, ℕ, List, [], ◌∷◌, All, Contains, map, Option, Some, None, Result, Ok, if◌then◌else◌, ⊤}
+use Rattle.std.specs.Borrow.{Bor}
 use Rattle.std.specs.Str.{bytes_eq}
 
 -- the table of an enumeration: each value with its text
 abbrev pub table : {A : Type 0} → (A → List ℕ) → List A → List (A × List ℕ)
 table text values = map (λ x. (x, text x)) values
+
+-- a row of a table as the code has it
+abbrev pub row_of : {A : Type 0} → A × Bor (List ℕ) → A × List ℕ
+row_of row = (row.0, row.1.now)
 
 -- the table has every value with its text and nothing else, and no two values share a text
 pub record IsNaming {A : Type 0} (text : A → List ℕ) (rows : List (A × List ℕ)) : Type 0 where

@@ -3,6 +3,7 @@ ghost use Rattle.std.specs.Prelude.{◌≡◌};
 ghost use Rattle.wgsl_syntax.specs.Names.{named, table, Reads};
 ghost use Rattle.wgsl_syntax.specs.Attribute.{depth_text, depths, flag_text, flags, interpolation_text, interpolations, sampling_text, samplings, severities, severity_text};
 
+use crate::named::value_named;
 use std::fmt;
 use std::fmt::Write;
 use std::str::FromStr;
@@ -20,17 +21,16 @@ pub enum DiagnosticSeverity {
     Off,
 }
 
+static SEVERITIES: &[(DiagnosticSeverity, &str)] = names! {
+    DiagnosticSeverity Error "error" Warning "warning" Info "info" Off "off"
+};
+
 impl DiagnosticSeverity {
     /// The name.
     fn text(self) -> &'static str
         ensures { result.now ≡ severity_text self }
     {
-        match self {
-            DiagnosticSeverity::Error => "error",
-            DiagnosticSeverity::Warning => "warning",
-            DiagnosticSeverity::Info => "info",
-            DiagnosticSeverity::Off => "off",
-        }
+        SEVERITIES[self as usize].1
     }
 }
 
@@ -50,13 +50,7 @@ impl fmt::Display for DiagnosticSeverity {
 fn severity_named(s: &str) -> Option<DiagnosticSeverity>
     ensures { result ≡ named (table severity_text severities) s.now }
 {
-    match s {
-        "error" => Some(DiagnosticSeverity::Error),
-        "warning" => Some(DiagnosticSeverity::Warning),
-        "info" => Some(DiagnosticSeverity::Info),
-        "off" => Some(DiagnosticSeverity::Off),
-        _ => None,
-    }
+    value_named(SEVERITIES, s)
 }
 
 impl FromStr for DiagnosticSeverity {
@@ -80,16 +74,16 @@ pub enum InterpolationType {
     Flat,
 }
 
+static INTERPOLATIONS: &[(InterpolationType, &str)] = names! {
+    InterpolationType Perspective "perspective" Linear "linear" Flat "flat"
+};
+
 impl InterpolationType {
     /// The name.
     fn text(self) -> &'static str
         ensures { result.now ≡ interpolation_text self }
     {
-        match self {
-            InterpolationType::Perspective => "perspective",
-            InterpolationType::Linear => "linear",
-            InterpolationType::Flat => "flat",
-        }
+        INTERPOLATIONS[self as usize].1
     }
 }
 
@@ -109,12 +103,7 @@ impl fmt::Display for InterpolationType {
 fn interpolation_named(s: &str) -> Option<InterpolationType>
     ensures { result ≡ named (table interpolation_text interpolations) s.now }
 {
-    match s {
-        "perspective" => Some(InterpolationType::Perspective),
-        "linear" => Some(InterpolationType::Linear),
-        "flat" => Some(InterpolationType::Flat),
-        _ => None,
-    }
+    value_named(INTERPOLATIONS, s)
 }
 
 impl FromStr for InterpolationType {
@@ -142,18 +131,17 @@ pub enum InterpolationSampling {
     Either,
 }
 
+static SAMPLINGS: &[(InterpolationSampling, &str)] = names! {
+    InterpolationSampling Center "center" Centroid "centroid" Sample "sample" First "first"
+    Either "either"
+};
+
 impl InterpolationSampling {
     /// The name.
     fn text(self) -> &'static str
         ensures { result.now ≡ sampling_text self }
     {
-        match self {
-            InterpolationSampling::Center => "center",
-            InterpolationSampling::Centroid => "centroid",
-            InterpolationSampling::Sample => "sample",
-            InterpolationSampling::First => "first",
-            InterpolationSampling::Either => "either",
-        }
+        SAMPLINGS[self as usize].1
     }
 }
 
@@ -173,14 +161,7 @@ impl fmt::Display for InterpolationSampling {
 fn sampling_named(s: &str) -> Option<InterpolationSampling>
     ensures { result ≡ named (table sampling_text samplings) s.now }
 {
-    match s {
-        "center" => Some(InterpolationSampling::Center),
-        "centroid" => Some(InterpolationSampling::Centroid),
-        "sample" => Some(InterpolationSampling::Sample),
-        "first" => Some(InterpolationSampling::First),
-        "either" => Some(InterpolationSampling::Either),
-        _ => None,
-    }
+    value_named(SAMPLINGS, s)
 }
 
 impl FromStr for InterpolationSampling {
@@ -204,16 +185,16 @@ pub enum ConservativeDepth {
     Unchanged,
 }
 
+static DEPTHS: &[(ConservativeDepth, &str)] = names! {
+    ConservativeDepth GreaterEqual "greater_equal" LessEqual "less_equal" Unchanged "unchanged"
+};
+
 impl ConservativeDepth {
     /// The name.
     fn text(self) -> &'static str
         ensures { result.now ≡ depth_text self }
     {
-        match self {
-            ConservativeDepth::GreaterEqual => "greater_equal",
-            ConservativeDepth::LessEqual => "less_equal",
-            ConservativeDepth::Unchanged => "unchanged",
-        }
+        DEPTHS[self as usize].1
     }
 }
 
@@ -233,12 +214,7 @@ impl fmt::Display for ConservativeDepth {
 fn depth_named(s: &str) -> Option<ConservativeDepth>
     ensures { result ≡ named (table depth_text depths) s.now }
 {
-    match s {
-        "greater_equal" => Some(ConservativeDepth::GreaterEqual),
-        "less_equal" => Some(ConservativeDepth::LessEqual),
-        "unchanged" => Some(ConservativeDepth::Unchanged),
-        _ => None,
-    }
+    value_named(DEPTHS, s)
 }
 
 impl FromStr for ConservativeDepth {
@@ -258,14 +234,16 @@ pub enum AccelerationStructureFlags {
     VertexReturn,
 }
 
+static FLAGS: &[(AccelerationStructureFlags, &str)] = names! {
+    AccelerationStructureFlags VertexReturn "vertex_return"
+};
+
 impl AccelerationStructureFlags {
     /// The name.
     fn text(self) -> &'static str
         ensures { result.now ≡ flag_text self }
     {
-        match self {
-            AccelerationStructureFlags::VertexReturn => "vertex_return",
-        }
+        FLAGS[self as usize].1
     }
 }
 
@@ -286,10 +264,7 @@ impl fmt::Display for AccelerationStructureFlags {
 pub fn flag_named(s: &str) -> Option<AccelerationStructureFlags>
     ensures { result ≡ named (table flag_text flags) s.now }
 {
-    match s {
-        "vertex_return" => Some(AccelerationStructureFlags::VertexReturn),
-        _ => None,
-    }
+    value_named(FLAGS, s)
 }
 
 impl FromStr for AccelerationStructureFlags {

@@ -3,6 +3,7 @@ ghost use Rattle.std.specs.Prelude.{◌≡◌};
 ghost use Rattle.wgsl_syntax.specs.Names.{named, table, Reads};
 ghost use Rattle.wgsl_syntax.specs.Attribute.{builtin_text, builtin_values};
 
+use crate::named::value_named;
 use std::fmt;
 use std::fmt::Write;
 use std::str::FromStr;
@@ -50,32 +51,23 @@ pub enum BuiltinValue {
     ViewIndex,
 }
 
+static BUILTIN_VALUES: &[(BuiltinValue, &str)] = names! {
+    BuiltinValue VertexIndex "vertex_index" InstanceIndex "instance_index"
+    ClipDistances "clip_distances" Position "position" FrontFacing "front_facing"
+    FragDepth "frag_depth" SampleIndex "sample_index" SampleMask "sample_mask"
+    LocalInvocationId "local_invocation_id" LocalInvocationIndex "local_invocation_index"
+    GlobalInvocationId "global_invocation_id" WorkgroupId "workgroup_id"
+    NumWorkgroups "num_workgroups" SubgroupInvocationId "subgroup_invocation_id"
+    SubgroupSize "subgroup_size" SubgroupId "subgroup_id" NumSubgroups "num_subgroups"
+    PrimitiveIndex "primitive_index" ViewIndex "view_index"
+};
+
 impl BuiltinValue {
     /// The name.
     fn text(self) -> &'static str
         ensures { result.now ≡ builtin_text self }
     {
-        match self {
-            BuiltinValue::VertexIndex => "vertex_index",
-            BuiltinValue::InstanceIndex => "instance_index",
-            BuiltinValue::ClipDistances => "clip_distances",
-            BuiltinValue::Position => "position",
-            BuiltinValue::FrontFacing => "front_facing",
-            BuiltinValue::FragDepth => "frag_depth",
-            BuiltinValue::SampleIndex => "sample_index",
-            BuiltinValue::SampleMask => "sample_mask",
-            BuiltinValue::LocalInvocationId => "local_invocation_id",
-            BuiltinValue::LocalInvocationIndex => "local_invocation_index",
-            BuiltinValue::GlobalInvocationId => "global_invocation_id",
-            BuiltinValue::WorkgroupId => "workgroup_id",
-            BuiltinValue::NumWorkgroups => "num_workgroups",
-            BuiltinValue::SubgroupInvocationId => "subgroup_invocation_id",
-            BuiltinValue::SubgroupSize => "subgroup_size",
-            BuiltinValue::SubgroupId => "subgroup_id",
-            BuiltinValue::NumSubgroups => "num_subgroups",
-            BuiltinValue::PrimitiveIndex => "primitive_index",
-            BuiltinValue::ViewIndex => "view_index",
-        }
+        BUILTIN_VALUES[self as usize].1
     }
 }
 
@@ -95,28 +87,7 @@ impl fmt::Display for BuiltinValue {
 fn builtin_named(s: &str) -> Option<BuiltinValue>
     ensures { result ≡ named (table builtin_text builtin_values) s.now }
 {
-    match s {
-        "vertex_index" => Some(BuiltinValue::VertexIndex),
-        "instance_index" => Some(BuiltinValue::InstanceIndex),
-        "clip_distances" => Some(BuiltinValue::ClipDistances),
-        "position" => Some(BuiltinValue::Position),
-        "front_facing" => Some(BuiltinValue::FrontFacing),
-        "frag_depth" => Some(BuiltinValue::FragDepth),
-        "sample_index" => Some(BuiltinValue::SampleIndex),
-        "sample_mask" => Some(BuiltinValue::SampleMask),
-        "local_invocation_id" => Some(BuiltinValue::LocalInvocationId),
-        "local_invocation_index" => Some(BuiltinValue::LocalInvocationIndex),
-        "global_invocation_id" => Some(BuiltinValue::GlobalInvocationId),
-        "workgroup_id" => Some(BuiltinValue::WorkgroupId),
-        "num_workgroups" => Some(BuiltinValue::NumWorkgroups),
-        "subgroup_invocation_id" => Some(BuiltinValue::SubgroupInvocationId),
-        "subgroup_size" => Some(BuiltinValue::SubgroupSize),
-        "subgroup_id" => Some(BuiltinValue::SubgroupId),
-        "num_subgroups" => Some(BuiltinValue::NumSubgroups),
-        "primitive_index" => Some(BuiltinValue::PrimitiveIndex),
-        "view_index" => Some(BuiltinValue::ViewIndex),
-        _ => None,
-    }
+    value_named(BUILTIN_VALUES, s)
 }
 
 impl FromStr for BuiltinValue {

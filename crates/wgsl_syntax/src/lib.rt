@@ -1,6 +1,13 @@
 //! The names of WGSL: its enumerations, operators, texel formats, textures and samplers.
 #![tactic(auto)]
 
+/// A table of an enumeration's names: `names! { Enumeration Variant "name" .. }`, in the order of its variants.
+macro_rules! names {
+    ($of:ident $($variant:ident $name:literal)+) => {
+        &[$(($of::$variant, $name)),+]
+    };
+}
+
 pub mod address;
 pub mod around;
 pub mod attribute;
@@ -9,6 +16,7 @@ pub mod call;
 pub mod enumerant;
 pub mod hash;
 pub mod layer;
+mod named;
 pub mod names;
 pub mod nearest;
 pub mod operator;

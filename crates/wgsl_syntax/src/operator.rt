@@ -251,6 +251,12 @@ pub enum AssignmentOperator {
     ShiftLeftAssign,
 }
 
+static ASSIGNMENTS: &[(AssignmentOperator, &str)] = names! {
+    AssignmentOperator Equal "=" PlusEqual "+=" MinusEqual "-=" TimesEqual "*=" DivisionEqual "/="
+    ModuloEqual "%=" AndEqual "&=" OrEqual "|=" XorEqual "^=" ShiftRightAssign ">>="
+    ShiftLeftAssign "<<="
+};
+
 impl AssignmentOperator {
     ghost use Rattle.wgsl_syntax.specs.Operator.{assignment_text};
 
@@ -258,19 +264,7 @@ impl AssignmentOperator {
     fn text(self) -> &'static str
         ensures { result.now ≡ assignment_text self }
     {
-        match self {
-            AssignmentOperator::Equal => "=",
-            AssignmentOperator::PlusEqual => "+=",
-            AssignmentOperator::MinusEqual => "-=",
-            AssignmentOperator::TimesEqual => "*=",
-            AssignmentOperator::DivisionEqual => "/=",
-            AssignmentOperator::ModuloEqual => "%=",
-            AssignmentOperator::AndEqual => "&=",
-            AssignmentOperator::OrEqual => "|=",
-            AssignmentOperator::XorEqual => "^=",
-            AssignmentOperator::ShiftRightAssign => ">>=",
-            AssignmentOperator::ShiftLeftAssign => "<<=",
-        }
+        ASSIGNMENTS[self as usize].1
     }
 }
 

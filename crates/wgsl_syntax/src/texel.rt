@@ -3,6 +3,7 @@ ghost use Rattle.std.specs.Prelude.{◌≡◌, MatchOption};
 ghost use Rattle.wgsl_syntax.specs.Names.{named, table, Reads};
 ghost use Rattle.wgsl_syntax.specs.Texel.{IsTexel, channel_count, channel_type, texel_formats, texel_text, texel_text_by};
 
+use crate::named::value_named;
 use crate::rules::RuleSet;
 use crate::texture::SampledType;
 use std::fmt;
@@ -95,6 +96,20 @@ pub enum TexelFormat {
     /// `r64uint`
     R64Uint,
 }
+
+static TEXELS: &[(TexelFormat, &str)] = names! {
+    TexelFormat Rgba8Unorm "rgba8unorm" Rgba8Snorm "rgba8snorm" Rgba8Uint "rgba8uint"
+    Rgba8Sint "rgba8sint" R8Unorm "r8unorm" R8Snorm "r8snorm" R8Uint "r8uint" R8Sint "r8sint"
+    Rg8Unorm "rg8unorm" Rg8Snorm "rg8snorm" Rg8Uint "rg8uint" Rg8Sint "rg8sint"
+    Rgba16Unorm "rgba16unorm" Rgba16Snorm "rgba16snorm" Rgba16Uint "rgba16uint"
+    Rgba16Sint "rgba16sint" Rgba16Float "rgba16float" R16Unorm "r16unorm" R16Snorm "r16snorm"
+    R16Uint "r16uint" R16Sint "r16sint" R16Float "r16float" Rg16Unorm "rg16unorm"
+    Rg16Snorm "rg16snorm" Rg16Uint "rg16uint" Rg16Sint "rg16sint" Rg16Float "rg16float"
+    R32Uint "r32uint" R32Sint "r32sint" R32Float "r32float" Rg32Uint "rg32uint"
+    Rg32Sint "rg32sint" Rg32Float "rg32float" Rgba32Uint "rgba32uint" Rgba32Sint "rgba32sint"
+    Rgba32Float "rgba32float" Bgra8Unorm "bgra8unorm" Rgb10a2Uint "rgb10a2uint"
+    Rgb10a2Unorm "rgb10a2unorm" Rg11b10Float "rg11b10float" R64Uint "r64uint"
+};
 
 impl TexelFormat {
     /// The type that the channels of a texel are read as (WGSL, "Texel Formats").
@@ -223,49 +238,7 @@ impl TexelFormat {
     fn text(self) -> &'static str
         ensures { result.now ≡ texel_text self }
     {
-        match self {
-            TexelFormat::Rgba8Unorm => "rgba8unorm",
-            TexelFormat::Rgba8Snorm => "rgba8snorm",
-            TexelFormat::Rgba8Uint => "rgba8uint",
-            TexelFormat::Rgba8Sint => "rgba8sint",
-            TexelFormat::R8Unorm => "r8unorm",
-            TexelFormat::R8Snorm => "r8snorm",
-            TexelFormat::R8Uint => "r8uint",
-            TexelFormat::R8Sint => "r8sint",
-            TexelFormat::Rg8Unorm => "rg8unorm",
-            TexelFormat::Rg8Snorm => "rg8snorm",
-            TexelFormat::Rg8Uint => "rg8uint",
-            TexelFormat::Rg8Sint => "rg8sint",
-            TexelFormat::Rgba16Unorm => "rgba16unorm",
-            TexelFormat::Rgba16Snorm => "rgba16snorm",
-            TexelFormat::Rgba16Uint => "rgba16uint",
-            TexelFormat::Rgba16Sint => "rgba16sint",
-            TexelFormat::Rgba16Float => "rgba16float",
-            TexelFormat::R16Unorm => "r16unorm",
-            TexelFormat::R16Snorm => "r16snorm",
-            TexelFormat::R16Uint => "r16uint",
-            TexelFormat::R16Sint => "r16sint",
-            TexelFormat::R16Float => "r16float",
-            TexelFormat::Rg16Unorm => "rg16unorm",
-            TexelFormat::Rg16Snorm => "rg16snorm",
-            TexelFormat::Rg16Uint => "rg16uint",
-            TexelFormat::Rg16Sint => "rg16sint",
-            TexelFormat::Rg16Float => "rg16float",
-            TexelFormat::R32Uint => "r32uint",
-            TexelFormat::R32Sint => "r32sint",
-            TexelFormat::R32Float => "r32float",
-            TexelFormat::Rg32Uint => "rg32uint",
-            TexelFormat::Rg32Sint => "rg32sint",
-            TexelFormat::Rg32Float => "rg32float",
-            TexelFormat::Rgba32Uint => "rgba32uint",
-            TexelFormat::Rgba32Sint => "rgba32sint",
-            TexelFormat::Rgba32Float => "rgba32float",
-            TexelFormat::Bgra8Unorm => "bgra8unorm",
-            TexelFormat::Rgb10a2Uint => "rgb10a2uint",
-            TexelFormat::Rgb10a2Unorm => "rgb10a2unorm",
-            TexelFormat::Rg11b10Float => "rg11b10float",
-            TexelFormat::R64Uint => "r64uint",
-        }
+        TEXELS[self as usize].1
     }
 }
 
@@ -286,50 +259,7 @@ impl fmt::Display for TexelFormat {
 pub fn texel_named(s: &str) -> Option<TexelFormat>
     ensures { result ≡ named (table texel_text texel_formats) s.now }
 {
-    match s {
-        "rgba8unorm" => Some(TexelFormat::Rgba8Unorm),
-        "rgba8snorm" => Some(TexelFormat::Rgba8Snorm),
-        "rgba8uint" => Some(TexelFormat::Rgba8Uint),
-        "rgba8sint" => Some(TexelFormat::Rgba8Sint),
-        "r8unorm" => Some(TexelFormat::R8Unorm),
-        "r8snorm" => Some(TexelFormat::R8Snorm),
-        "r8uint" => Some(TexelFormat::R8Uint),
-        "r8sint" => Some(TexelFormat::R8Sint),
-        "rg8unorm" => Some(TexelFormat::Rg8Unorm),
-        "rg8snorm" => Some(TexelFormat::Rg8Snorm),
-        "rg8uint" => Some(TexelFormat::Rg8Uint),
-        "rg8sint" => Some(TexelFormat::Rg8Sint),
-        "rgba16unorm" => Some(TexelFormat::Rgba16Unorm),
-        "rgba16snorm" => Some(TexelFormat::Rgba16Snorm),
-        "rgba16uint" => Some(TexelFormat::Rgba16Uint),
-        "rgba16sint" => Some(TexelFormat::Rgba16Sint),
-        "rgba16float" => Some(TexelFormat::Rgba16Float),
-        "r16unorm" => Some(TexelFormat::R16Unorm),
-        "r16snorm" => Some(TexelFormat::R16Snorm),
-        "r16uint" => Some(TexelFormat::R16Uint),
-        "r16sint" => Some(TexelFormat::R16Sint),
-        "r16float" => Some(TexelFormat::R16Float),
-        "rg16unorm" => Some(TexelFormat::Rg16Unorm),
-        "rg16snorm" => Some(TexelFormat::Rg16Snorm),
-        "rg16uint" => Some(TexelFormat::Rg16Uint),
-        "rg16sint" => Some(TexelFormat::Rg16Sint),
-        "rg16float" => Some(TexelFormat::Rg16Float),
-        "r32uint" => Some(TexelFormat::R32Uint),
-        "r32sint" => Some(TexelFormat::R32Sint),
-        "r32float" => Some(TexelFormat::R32Float),
-        "rg32uint" => Some(TexelFormat::Rg32Uint),
-        "rg32sint" => Some(TexelFormat::Rg32Sint),
-        "rg32float" => Some(TexelFormat::Rg32Float),
-        "rgba32uint" => Some(TexelFormat::Rgba32Uint),
-        "rgba32sint" => Some(TexelFormat::Rgba32Sint),
-        "rgba32float" => Some(TexelFormat::Rgba32Float),
-        "bgra8unorm" => Some(TexelFormat::Bgra8Unorm),
-        "rgb10a2uint" => Some(TexelFormat::Rgb10a2Uint),
-        "rgb10a2unorm" => Some(TexelFormat::Rgb10a2Unorm),
-        "rg11b10float" => Some(TexelFormat::Rg11b10Float),
-        "r64uint" => Some(TexelFormat::R64Uint),
-        _ => None,
-    }
+    value_named(TEXELS, s)
 }
 
 impl FromStr for TexelFormat {

@@ -4,6 +4,7 @@ ghost use Rattle.wgsl_syntax.specs.Names.{named, table, Reads};
 ghost use Rattle.wgsl_syntax.specs.TextureName.{parameter_kind, texture_name_text, texture_names, texture_with};
 
 use crate::address::AccessMode;
+use crate::named::value_named;
 use crate::texel::TexelFormat;
 use crate::texture::{SampledType, TextureType};
 use std::fmt;
@@ -73,6 +74,18 @@ pub enum TextureParameters {
     Storage(TexelFormat, AccessMode),
 }
 
+static TEXTURES: &[(TextureName, &str)] = names! {
+    TextureName Sampled1D "texture_1d" Sampled2D "texture_2d" Sampled2DArray "texture_2d_array"
+    Sampled3D "texture_3d" SampledCube "texture_cube" SampledCubeArray "texture_cube_array"
+    Sampled1DArray "texture_1d_array" Multisampled2D "texture_multisampled_2d"
+    Multisampled2DArray "texture_multisampled_2d_array"
+    DepthMultisampled2D "texture_depth_multisampled_2d" Storage1D "texture_storage_1d"
+    Storage1DArray "texture_storage_1d_array" Storage2D "texture_storage_2d"
+    Storage2DArray "texture_storage_2d_array" Storage3D "texture_storage_3d"
+    External "texture_external" Depth2D "texture_depth_2d" Depth2DArray "texture_depth_2d_array"
+    DepthCube "texture_depth_cube" DepthCubeArray "texture_depth_cube_array"
+};
+
 impl TextureName {
     /// Which parameters textures of this name have.
     pub fn parameter_kind(self) -> TextureParameterKind
@@ -138,28 +151,7 @@ impl TextureName {
     fn text(self) -> &'static str
         ensures { result.now ≡ texture_name_text self }
     {
-        match self {
-            TextureName::Sampled1D => "texture_1d",
-            TextureName::Sampled2D => "texture_2d",
-            TextureName::Sampled2DArray => "texture_2d_array",
-            TextureName::Sampled3D => "texture_3d",
-            TextureName::SampledCube => "texture_cube",
-            TextureName::SampledCubeArray => "texture_cube_array",
-            TextureName::Sampled1DArray => "texture_1d_array",
-            TextureName::Multisampled2D => "texture_multisampled_2d",
-            TextureName::Multisampled2DArray => "texture_multisampled_2d_array",
-            TextureName::DepthMultisampled2D => "texture_depth_multisampled_2d",
-            TextureName::Storage1D => "texture_storage_1d",
-            TextureName::Storage1DArray => "texture_storage_1d_array",
-            TextureName::Storage2D => "texture_storage_2d",
-            TextureName::Storage2DArray => "texture_storage_2d_array",
-            TextureName::Storage3D => "texture_storage_3d",
-            TextureName::External => "texture_external",
-            TextureName::Depth2D => "texture_depth_2d",
-            TextureName::Depth2DArray => "texture_depth_2d_array",
-            TextureName::DepthCube => "texture_depth_cube",
-            TextureName::DepthCubeArray => "texture_depth_cube_array",
-        }
+        TEXTURES[self as usize].1
     }
 }
 
@@ -180,29 +172,7 @@ impl fmt::Display for TextureName {
 pub fn texture_named(s: &str) -> Option<TextureName>
     ensures { result ≡ named (table texture_name_text texture_names) s.now }
 {
-    match s {
-        "texture_1d" => Some(TextureName::Sampled1D),
-        "texture_2d" => Some(TextureName::Sampled2D),
-        "texture_2d_array" => Some(TextureName::Sampled2DArray),
-        "texture_3d" => Some(TextureName::Sampled3D),
-        "texture_cube" => Some(TextureName::SampledCube),
-        "texture_cube_array" => Some(TextureName::SampledCubeArray),
-        "texture_1d_array" => Some(TextureName::Sampled1DArray),
-        "texture_multisampled_2d" => Some(TextureName::Multisampled2D),
-        "texture_multisampled_2d_array" => Some(TextureName::Multisampled2DArray),
-        "texture_depth_multisampled_2d" => Some(TextureName::DepthMultisampled2D),
-        "texture_storage_1d" => Some(TextureName::Storage1D),
-        "texture_storage_1d_array" => Some(TextureName::Storage1DArray),
-        "texture_storage_2d" => Some(TextureName::Storage2D),
-        "texture_storage_2d_array" => Some(TextureName::Storage2DArray),
-        "texture_storage_3d" => Some(TextureName::Storage3D),
-        "texture_external" => Some(TextureName::External),
-        "texture_depth_2d" => Some(TextureName::Depth2D),
-        "texture_depth_2d_array" => Some(TextureName::Depth2DArray),
-        "texture_depth_cube" => Some(TextureName::DepthCube),
-        "texture_depth_cube_array" => Some(TextureName::DepthCubeArray),
-        _ => None,
-    }
+    value_named(TEXTURES, s)
 }
 
 impl FromStr for TextureName {

@@ -25,8 +25,7 @@ integer_number s h = tt
 integer_shape : (t : WgslType) → IsScalarOrVectorOf Integer t → Admits (or_vector a_number) t
 integer_shape (scalar s) h = integer_number s h
 integer_shape (within (vec_of n) (scalar s)) h = integer_number s h
-integer_shape (within (vec_of n) t) h = absurd h
-integer_shape t h = absurd h
+integer_shape _ h = absurd h
 
 integer_or_float : (s : Scalar) → IsNumeric s → IsInteger s ⊎ IsFloat s
 integer_or_float Bool h = absurd h
@@ -40,8 +39,7 @@ integer_or_float s h = inr tt
 number_shape_of : (t : WgslType) → Admits (or_vector a_number) t → IsScalarOrVectorOf Integer t ⊎ IsFloatOrVector t
 number_shape_of (scalar s) h = integer_or_float s h
 number_shape_of (within (vec_of n) (scalar s)) h = integer_or_float s h
-number_shape_of (within (vec_of n) t) h = absurd h
-number_shape_of t h = absurd h
+number_shape_of _ h = absurd h
 
 no_integer_float : (s : Scalar) → IsFloat s → ¬ IsInteger s
 no_integer_float AbstractFloat h k = k

@@ -27,22 +27,17 @@ precision_at s = precision.Abstract
 its_shape : (s : ResultShape) (a : Scalar) → shape_at (components (shaped s (scalar a))) ≡ s
 unfolding shape_at components
 its_shape shape.Scalar a = refl
-its_shape shape.Vec2 a = refl
-its_shape shape.Vec3 a = refl
-its_shape shape.Vec4 a = refl
+its_shape _ a = refl
 
 its_component : (s : ResultShape) (a : Scalar) → component (shaped s (scalar a)) ≡ a
 unfolding component
 its_component shape.Scalar a = refl
-its_component shape.Vec2 a = refl
-its_component shape.Vec3 a = refl
-its_component shape.Vec4 a = refl
+its_component _ a = refl
 
 its_precision : (p : ResultPrecision) → precision_at (float_of p) ≡ p
 unfolding precision_at
 its_precision precision.Abstract = refl
-its_precision precision.F32 = refl
-its_precision precision.F16 = refl
+its_precision _ = refl
 
 pub one_fraction : (s r : ResultShape) (p q : ResultPrecision) → shaped s (scalar (float_of p)) ≡ shaped r (scalar (float_of q)) → (s ≡ r) × (p ≡ q)
 one_fraction s r p q e = (

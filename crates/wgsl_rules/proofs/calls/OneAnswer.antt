@@ -3,7 +3,7 @@ use Rattle.std.proofs.Common.{◌≡◌, List, [], ◌∷◌, Option, None, Some
 use Rattle.wgsl_rules.proofs.Common.{ResultFunction, WgslType, vec, inner_of, concretized, result_struct, Parameter, Signature, Refusal, Source, Row, call_table, rows_named, IsAnswerOf, IsCallAnswer}
 use Rattle.wgsl_rules.specs.calls.ResultTypes.{IsResultOf}
 use Rattle.wgsl_syntax.specs.declared.call.ReturnType.{ReturnType}
-use Rattle.wgsl_syntax.specs.declared.call.Source.TheVariants.{Argument, Inner, InnerOfInner, Common, InnerOfCommon, CommonOfThree, CommonOfInner, The, SampledAs, Channel}
+use Rattle.wgsl_syntax.specs.declared.call.Source.TheVariants.{Common, InnerOfCommon, CommonOfThree, CommonOfInner}
 use Rattle.wgsl_syntax.specs.declared.call.ReturnType.TheVariants.{Of, Concrete, AsLong, InVector, Transposed, TextureSize, ResultOf, ExchangeResult, RayIntersection, HitPositions, NoValue, ByTemplate}
 use Rattle.wgsl_rules.specs.calls.Rows.{return_type_of, first, second, third, IsCommonOf, IsSource, vector_like, IsResultFor, given, IsFromTemplate, IsReturnType}
 use Rattle.wgsl_rules.proofs.conversion.Commons.{common_once}
@@ -15,24 +15,18 @@ Answer = Result (Option WgslType) Refusal
 
 common_of_once : (t u c d : Option WgslType) → IsCommonOf t u c → IsCommonOf t u d → c ≡ d
 common_of_once (Some t) (Some u) c d p q = common_once t u c d p q
-common_of_once (Some t) None c d p q = p ∙ sym q
-common_of_once None u c d p q = p ∙ sym q
+common_of_once _ _ c d p q = p ∙ sym q
 
 then_once : (t u v c d x y : Option WgslType) → IsCommonOf t u c → IsCommonOf t u d → IsCommonOf c v x → IsCommonOf d v y → x ≡ y
 then_once t u v c d x y p q h k =
     common_of_once d v x y (subst (λ e. IsCommonOf e v x) (common_of_once t u c d p q) h) k
 
 source_once : (p : Source) (ts : List WgslType) (c d : Option WgslType) → IsSource p ts c → IsSource p ts d → c ≡ d
-source_once Argument ts c d p q = p ∙ sym q
-source_once Inner ts c d p q = p ∙ sym q
-source_once InnerOfInner ts c d p q = p ∙ sym q
 source_once Common ts c d p q = common_of_once (first ts) (second ts) c d p q
 source_once InnerOfCommon ts c d p q = p.2 ∙ (ap (option_map inner_of) (common_of_once (first ts) (second ts) p.0 q.0 p.1 q.1) ∙ sym q.2)
 source_once CommonOfThree ts c d p q = then_once (first ts) (second ts) (third ts) p.0 q.0 c d p.1 q.1 p.2 q.2
 source_once CommonOfInner ts c d p q = then_once (option_map inner_of (first ts)) (option_map inner_of (second ts)) (third ts) p.0 q.0 c d p.1 q.1 p.2 q.2
-source_once (The s) ts c d p q = p ∙ sym q
-source_once SampledAs ts c d p q = p ∙ sym q
-source_once Channel ts c d p q = p ∙ sym q
+source_once _ ts c d p q = p ∙ sym q
 
 result_once : (f : ResultFunction) (t : WgslType) (c d : Option WgslType) → IsResultOf f t c → IsResultOf f t d → c ≡ d
 result_once f t None None p q = refl

@@ -56,13 +56,11 @@ of_any n r = record { up = λ a c h k. tt; down = λ a c ts k h. inl tt; unfit =
 
 number_vector : (t : WgslType) → IsVectorOf Number t → Admits (vector_of a_number) t
 number_vector (within (vec_of n) (scalar s)) h = h
-number_vector (within (vec_of n) t) h = absurd h
-number_vector t h = absurd h
+number_vector _ h = absurd h
 
 vector_number : (t : WgslType) → Admits (vector_of a_number) t → IsVectorOf Number t
 vector_number (within (vec_of n) (scalar s)) h = h
-vector_number (within (vec_of n) t) h = absurd h
-vector_number t h = absurd h
+vector_number _ h = absurd h
 
 pub of_number_vectors : (n : Name) → no_refusal n → Shaped n (VectorOf Number) (vector_of a_number)
 of_number_vectors n r = record {
@@ -117,8 +115,7 @@ of_floats n r = record {
 
 float_vector : (t : WgslType) → IsVectorOf Float t → Admits (vector_of a_float) t
 float_vector (within (vec_of n) (scalar s)) h = h
-float_vector (within (vec_of n) t) h = absurd h
-float_vector t h = absurd h
+float_vector _ h = absurd h
 
 pub of_float_vectors : (n : Name) → ints_refused n → Shaped n (VectorOf Float) (vector_of a_float)
 of_float_vectors n r = record {

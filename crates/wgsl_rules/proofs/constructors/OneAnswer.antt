@@ -4,7 +4,7 @@ use Rattle.wgsl_rules.proofs.Common.{WgslType, scalar, array, vec, mat, IsScalar
 use Rattle.wgsl_rules.specs.constructors.Steps.{Either, Then, ThenCommon, IsCounted, IsFirstStuck}
 use Rattle.wgsl_rules.specs.constructors.Vectors.{BringsComponents, all_components, no_components, IsTypedVectorOfOne, IsTypedVectorOfSeveral, IsTypedVector, IsUntypedVectorOfOne, IsUntypedVectorOfSeveral, IsUntypedVector, IsVectorCall}
 use Rattle.wgsl_rules.specs.constructors.Matrices.{IsMatrixOf, IsTypedMatrixOf, IsTypedMatrixOfOne, IsTypedMatrix, IsUntypedMatrixOf, IsUntypedMatrixOfOne, IsUntypedMatrix, IsMatrixCall, component_of, incompatible_matrix, no_columns}
-use Rattle.wgsl_rules.specs.constructors.Constructors.{Constructor, makes_array, makes_scalar, makes_vector, makes_matrix, IsTypedArray, IsArrayCall, IsBuilt, IsConstructorAnswer, constructor_of}
+use Rattle.wgsl_rules.specs.constructors.Constructors.{Constructor, makes_array, makes_vector, makes_matrix, IsTypedArray, IsArrayCall, IsBuilt, IsConstructorAnswer, constructor_of}
 use Rattle.wgsl_rules.proofs.conversion.Commons.{left_common_once, receives_head, receives_tail}
 use Rattle.wgsl_rules.proofs.conversion.Converted.{converted_inside_once}
 use Rattle.wgsl_rules.proofs.templates.OneAnswer.{vec_template_once, mat_template_once}
@@ -72,9 +72,8 @@ filled_once t args x r s (inr h) (inl k) = absurd (none_stuck t args h.0 k.0 h.1
 filled_once t args x r s (inr h) (inr k) = h.2 ∙ (ap (λ b. Err (conversion b t)) (first_stuck_once t args h.0 k.0 h.1 k.1) ∙ sym k.2)
 
 typed_array_once : (args : List WgslType) (t : WgslType) → IsOnce (IsTypedArray args t)
-typed_array_once [] t r s h k = h ∙ sym k
 typed_array_once (a ∷ args) (array (Some n) t) r s h k = filled_once t (a ∷ args) (Ok (array (Some n) t)) r s h k
-typed_array_once (a ∷ args) t r s h k = h ∙ sym k
+typed_array_once _ t r s h k = h ∙ sym k
 
 array_once : (template : Option (List Parameter)) (args : List WgslType) → IsOnce (IsArrayCall template args)
 array_once (Some ps) args = then_once (array_template ps) (IsTypedArray args) (typed_array_once args)
@@ -101,9 +100,8 @@ typed_vector_once name n (a ∷ []) t = typed_vector_of_one_once n a t
 typed_vector_once name n (a ∷ b ∷ args) t = typed_vector_of_several_once name n (a ∷ b ∷ args) t
 
 untyped_vector_of_one_once : (n : ℕ) (a : WgslType) → IsOnce (IsUntypedVectorOfOne n a)
-untyped_vector_of_one_once n (scalar s) r q h k = h ∙ sym k
 untyped_vector_of_one_once n (vec m e) r q h k = one_of_two (m ≡ n) (Ok (vec n e)) (Err (conversion (vec m e) (vec n e))) r q h k
-untyped_vector_of_one_once n a r q h k = h ∙ sym k
+untyped_vector_of_one_once n _ r q h k = h ∙ sym k
 
 untyped_vector_of_several_once : (name : List ℕ) (n : ℕ) (args : List WgslType) → IsOnce (IsUntypedVectorOfSeveral name n args)
 untyped_vector_of_several_once name n args =
@@ -181,10 +179,9 @@ matrix_once name c r None args = untyped_matrix_once name c r args
 
 built_once : (c : Option Constructor) (call : Signature) → IsOnce (IsBuilt c call)
 built_once (Some makes_array) call r s h k = array_once call.template call.arguments r s h k
-built_once (Some (makes_scalar t)) call r s h k = h ∙ sym k
 built_once (Some (makes_vector n)) call r s h k = vector_once call.name n call.template call.arguments r s h k
 built_once (Some (makes_matrix c n)) call r s h k = matrix_once call.name c n call.template call.arguments r s h k
-built_once None call r s h k = h ∙ sym k
+built_once _ call r s h k = h ∙ sym k
 
 pub constructor_answer_once : (call : Signature) (r s : Result WgslType Refusal) → IsConstructorAnswer call r → IsConstructorAnswer call s → r ≡ s
 unfolding IsConstructorAnswer

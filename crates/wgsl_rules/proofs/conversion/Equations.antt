@@ -69,15 +69,9 @@ unfolding result_struct
 result_no_root m s h = h
 
 base_no_root : {t u : WgslType} {w : ℕ} → BaseStep t u w → ¬ IsRoot t
-base_no_root int_to_float h = h
-base_no_root int_to_i32 h = h
-base_no_root int_to_u32 h = h
-base_no_root int_to_i64 h = h
-base_no_root int_to_u64 h = h
-base_no_root float_to_f32 h = h
-base_no_root float_to_f16 h = h
 base_no_root (result_to_f32 m s) h = result_no_root m s h
 base_no_root (result_to_f16 m s) h = result_no_root m s h
+base_no_root _ h = h
 
 step_no_root : {t u : WgslType} {w : ℕ} → Step t u w → ¬ IsRoot t
 step_no_root (base b) h = base_no_root b h
@@ -158,15 +152,9 @@ unfolding result_struct
 result_plain m s p q h = absurd h
 
 base_plain : {t u : WgslType} {w : ℕ} → BaseStep t u w → IsPlainScalar t → IsPlainScalar u
-base_plain int_to_float h = tt
-base_plain int_to_i32 h = tt
-base_plain int_to_u32 h = tt
-base_plain int_to_i64 h = tt
-base_plain int_to_u64 h = tt
-base_plain float_to_f32 h = tt
-base_plain float_to_f16 h = tt
 base_plain (result_to_f32 m s) h = result_plain m s _ _ h
 base_plain (result_to_f16 m s) h = result_plain m s _ _ h
+base_plain _ h = tt
 
 step_plain : {t u : WgslType} {w : ℕ} → Step t u w → IsPlainScalar t → IsPlainScalar u
 step_plain (base b) h = base_plain b h

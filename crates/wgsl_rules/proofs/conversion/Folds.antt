@@ -31,13 +31,12 @@ none_follows None (t ∷ ts) more h = refl
 none_follows (Some c) (t ∷ ts) more h = (h.0, h.1, none_follows h.0 ts more h.2)
 
 to_fold : {ts : List WgslType} {r : Option WgslType} → IsLeftCommon ts r → IsFolded ts r
-to_fold of_no_types = refl
-to_fold (of_one_type t) = refl
 to_fold (of_last_member {ts = ts} {c = c} {r = r} t n h k) = longer ts n (to_fold h)
   where
     longer : (ts : List WgslType) → ts ≢ [] → IsFolded ts c → IsFolded (ts ++ t ∷ []) r
     longer [] n f = absurd (n refl)
     longer (u ∷ us) n f = fold_more (Some u) us c t r f k
+to_fold _ = refl
 
 not_empty : (ts : List WgslType) (t : WgslType) → ts ++ t ∷ [] ≢ []
 not_empty [] t e = absurd (cc e)

@@ -1,7 +1,7 @@
 -- Paths lead from parents to children: the types above a type are a chain, and weights are differences of ranks from
 -- the root.
 use Rattle.std.proofs.Common.{◌≡◌, ◌≢◌, ℕ, zero, suc, ◌+◌, ◌<◌, ◌≤◌, ◌-◌, ◌⊎◌, ◌↔◌, List, [], ◌∷◌, ◌++◌, length, refl, sym, ◌∙◌, ap, subst, inl, inr, arith, le_refl}
-use Rattle.wgsl_rules.proofs.Common.{AddressSpace, AccessMode, Read, Write, ReadWrite, Atomic, Layer, WgslType, within, reference, MayRead}
+use Rattle.wgsl_rules.proofs.Common.{AddressSpace, AccessMode, Read, ReadWrite, Layer, WgslType, within, reference, MayRead}
 use Rattle.wgsl_rules.specs.conversion.Conversion.{Step, inside, IsValueType, Leg, IsPath, path_weight, Load, load, load_inside, Path, Converts, ConvertsTo}
 use Rattle.wgsl_rules.proofs.types.Equality.{same_type, same_layer}
 use Rattle.wgsl_rules.proofs.conversion.Steps.{depth, height, step_height, target, step_depth, step_positive, step_parent, step_target, step_family, step_values, step_to_within, step_from_within, IsChild, child}
@@ -176,8 +176,7 @@ load_above l (further a s) = absurd (load_no_value l ((above_values a).1 (step_v
 dec_readable : (m : AccessMode) → Dec (MayRead m)
 dec_readable Read = yes (inl refl)
 dec_readable ReadWrite = yes (inr refl)
-dec_readable Write = no (λ h. elim h [ inl e ↦ absurd (cc e) | inr e ↦ absurd (cc e) ])
-dec_readable Atomic = no (λ h. elim h [ inl e ↦ absurd (cc e) | inr e ↦ absurd (cc e) ])
+dec_readable _ = no (λ h. elim h [ inl e ↦ absurd (cc e) | inr e ↦ absurd (cc e) ])
 
 pub load_readable : {s : AddressSpace} {t u : WgslType} {m : AccessMode} → Load (reference s t m) u → MayRead m × (t ≡ u)
 load_readable (load s t m h) = (h, refl)

@@ -35,9 +35,7 @@ depth t = 0
 
 core-shaped : (s : ResultShape) (t : WgslType) → core (shaped s t) ≡ core t
 core-shaped shape.Scalar t = refl
-core-shaped shape.Vec2 t = refl
-core-shaped shape.Vec3 t = refl
-core-shaped shape.Vec4 t = refl
+core-shaped _ t = refl
 
 first-result : (m : ResultFunction) (s : ResultShape) (p : ResultPrecision) → first (result_members m s p) ≡ shaped s (scalar (float_of p))
 first-result Frexp s p = refl
@@ -51,15 +49,9 @@ unfolding result_struct
 depth-result_struct m s p = ap float_depth (core-result m s p)
 
 base_depth : {t u : WgslType} {w : ℕ} → BaseStep t u w → depth u ≡ depth t + w
-base_depth int_to_float = refl
-base_depth int_to_i32 = refl
-base_depth int_to_u32 = refl
-base_depth int_to_i64 = refl
-base_depth int_to_u64 = refl
-base_depth float_to_f32 = refl
-base_depth float_to_f16 = refl
 base_depth (result_to_f32 m s) = omega (arith, depth-result_struct m s precision.Abstract, depth-result_struct m s precision.F32)
 base_depth (result_to_f16 m s) = omega (arith, depth-result_struct m s precision.Abstract, depth-result_struct m s precision.F16)
+base_depth _ = refl
 
 pub step_depth : {t u : WgslType} {w : ℕ} → Step t u w → depth u ≡ depth t + w
 step_depth (base b) = base_depth b
@@ -67,14 +59,7 @@ step_depth (inside l s) = step_depth s
 
 base_positive : {t u : WgslType} {w : ℕ} → BaseStep t u w → 0 < w
 base_positive int_to_float = omega arith
-base_positive int_to_i32 = omega arith
-base_positive int_to_u32 = omega arith
-base_positive int_to_i64 = omega arith
-base_positive int_to_u64 = omega arith
-base_positive float_to_f32 = omega arith
-base_positive float_to_f16 = omega arith
-base_positive (result_to_f32 m s) = omega arith
-base_positive (result_to_f16 m s) = omega arith
+base_positive _ = omega arith
 
 pub step_positive : {t u : WgslType} {w : ℕ} → Step t u w → 0 < w
 step_positive (base b) = base_positive b
@@ -86,8 +71,7 @@ scalar_depth_small s = omega arith
 
 float_depth_small : (s : Scalar) → float_depth s ≤ 9
 float_depth_small F32 = omega arith
-float_depth_small F16 = omega arith
-float_depth_small s = omega arith
+float_depth_small _ = omega arith
 
 pub depth_small : (t : WgslType) → depth t ≤ 9
 depth_small (scalar s) = scalar_depth_small s
@@ -123,15 +107,9 @@ unfolding result_struct
 height-result_struct m s p = ap float_height (core-result m s p)
 
 base_height : {t u : WgslType} {w : ℕ} → BaseStep t u w → height u ≡ height t + 1
-base_height int_to_float = refl
-base_height int_to_i32 = refl
-base_height int_to_u32 = refl
-base_height int_to_i64 = refl
-base_height int_to_u64 = refl
-base_height float_to_f32 = refl
-base_height float_to_f16 = refl
 base_height (result_to_f32 m s) = omega (arith, height-result_struct m s precision.Abstract, height-result_struct m s precision.F32)
 base_height (result_to_f16 m s) = omega (arith, height-result_struct m s precision.Abstract, height-result_struct m s precision.F16)
+base_height _ = refl
 
 pub step_height : {t u : WgslType} {w : ℕ} → Step t u w → height u ≡ height t + 1
 step_height (base b) = base_height b
@@ -139,18 +117,11 @@ step_height (inside l s) = step_height s
 
 scalar_height_small : (s : Scalar) → scalar_height s ≤ 2
 scalar_height_small I32 = omega arith
-scalar_height_small U32 = omega arith
-scalar_height_small I64 = omega arith
-scalar_height_small U64 = omega arith
-scalar_height_small AbstractFloat = omega arith
-scalar_height_small F32 = omega arith
-scalar_height_small F16 = omega arith
-scalar_height_small s = omega arith
+scalar_height_small _ = omega arith
 
 float_height_small : (s : Scalar) → float_height s ≤ 2
 float_height_small F32 = omega arith
-float_height_small F16 = omega arith
-float_height_small s = omega arith
+float_height_small _ = omega arith
 
 pub height_small : (t : WgslType) → height t ≤ 2
 height_small (scalar s) = scalar_height_small s
@@ -195,9 +166,7 @@ function_in-text Modf x = refl
 
 shape_in-shaped : (s : ResultShape) (x : Scalar) → shape_in (shaped s (scalar x)) ≡ s
 shape_in-shaped shape.Scalar x = refl
-shape_in-shaped shape.Vec2 x = refl
-shape_in-shaped shape.Vec3 x = refl
-shape_in-shaped shape.Vec4 x = refl
+shape_in-shaped _ x = refl
 
 pub function_of-result_struct : (m : ResultFunction) (s : ResultShape) (p : ResultPrecision) → function_of (result_struct m s p) ≡ m
 unfolding result_struct
@@ -215,15 +184,9 @@ unfolding result_struct
 parent-result_struct m s p = variant_of-result_struct m s p precision.Abstract
 
 base_parent : {t u : WgslType} {w : ℕ} → BaseStep t u w → parent u ≡ t
-base_parent int_to_float = refl
-base_parent int_to_i32 = refl
-base_parent int_to_u32 = refl
-base_parent int_to_i64 = refl
-base_parent int_to_u64 = refl
-base_parent float_to_f32 = refl
-base_parent float_to_f16 = refl
 base_parent (result_to_f32 m s) = parent-result_struct m s precision.F32
 base_parent (result_to_f16 m s) = parent-result_struct m s precision.F16
+base_parent _ = refl
 
 pub step_parent : {t u : WgslType} {w : ℕ} → Step t u w → parent u ≡ t
 step_parent (base b) = base_parent b
@@ -252,30 +215,18 @@ result_target : (m : ResultFunction) (s : ResultShape) (p q : ResultPrecision) (
 result_target m s p q d e f = sym (target-result_struct m s p (depth (result_struct m s q)) ∙ ap (λ d. result_struct m s (precision_at d)) e ∙ ap (λ p. result_struct m s p) f)
 
 base_target : {t u : WgslType} {w : ℕ} → BaseStep t u w → u ≡ target t (depth u)
-base_target int_to_float = refl
-base_target int_to_i32 = refl
-base_target int_to_u32 = refl
-base_target int_to_i64 = refl
-base_target int_to_u64 = refl
-base_target float_to_f32 = refl
-base_target float_to_f16 = refl
 base_target (result_to_f32 m s) = result_target m s precision.Abstract precision.F32 1 (depth-result_struct m s precision.F32) refl
 base_target (result_to_f16 m s) = result_target m s precision.Abstract precision.F16 2 (depth-result_struct m s precision.F16) refl
+base_target _ = refl
 
 pub step_target : {t u : WgslType} {w : ℕ} → Step t u w → u ≡ target t (depth u)
 step_target (base b) = base_target b
 step_target (inside l s) = ap (λ t. within l t) (step_target s)
 
 base_family : {t u : WgslType} {w : ℕ} → BaseStep t u w → (d : ℕ) → target t d ≡ target u d
-base_family int_to_float d = refl
-base_family int_to_i32 d = refl
-base_family int_to_u32 d = refl
-base_family int_to_i64 d = refl
-base_family int_to_u64 d = refl
-base_family float_to_f32 d = refl
-base_family float_to_f16 d = refl
 base_family (result_to_f32 m s) d = target-result_struct m s precision.Abstract d ∙ sym (target-result_struct m s precision.F32 d)
 base_family (result_to_f16 m s) d = target-result_struct m s precision.Abstract d ∙ sym (target-result_struct m s precision.F16 d)
+base_family _ d = refl
 
 pub step_family : {t u : WgslType} {w : ℕ} → Step t u w → (d : ℕ) → target t d ≡ target u d
 step_family (base b) d = base_family b d
@@ -293,15 +244,9 @@ unfolding result_struct
 result_leaf m s p = tt
 
 base_leaves : {t u : WgslType} {w : ℕ} → BaseStep t u w → IsLeaf t × IsLeaf u
-base_leaves int_to_float = (tt, tt)
-base_leaves int_to_i32 = (tt, tt)
-base_leaves int_to_u32 = (tt, tt)
-base_leaves int_to_i64 = (tt, tt)
-base_leaves int_to_u64 = (tt, tt)
-base_leaves float_to_f32 = (tt, tt)
-base_leaves float_to_f16 = (tt, tt)
 base_leaves (result_to_f32 m s) = (result_leaf m s precision.Abstract, result_leaf m s precision.F32)
 base_leaves (result_to_f16 m s) = (result_leaf m s precision.Abstract, result_leaf m s precision.F16)
+base_leaves _ = (tt, tt)
 
 leaf_value : (t : WgslType) → IsLeaf t → IsValueType t
 leaf_value (within l t) h = absurd h
@@ -345,45 +290,22 @@ base_refuted (result_to_f16 m s) a b c i j d e f g = g (sym (variant_of-result_s
 abbrev IsBaseChild : WgslType → Type 0
 IsBaseChild u = (t : WgslType) × (w : ℕ) × BaseStep t u w
 
+or_else : {u x : WgslType} → Dec (u ≡ x) → (u ≡ x → IsBaseChild u) → (u ≢ x → Dec (IsBaseChild u)) → Dec (IsBaseChild u)
+or_else (yes e) child other = yes (child e)
+or_else (no n) child other = other n
+
 base_child : (u : WgslType) → Dec (IsBaseChild u)
 base_child u =
-    elim (same_type u (scalar AbstractFloat)) [
-      | yes e ↦ yes (rw e (_, 5, int_to_float))
-      | no a ↦
-          elim (same_type u (scalar I32)) [
-            | yes e ↦ yes (rw e (_, 3, int_to_i32))
-            | no b ↦
-                elim (same_type u (scalar U32)) [
-                  | yes e ↦ yes (rw e (_, 4, int_to_u32))
-                  | no c ↦
-                      elim (same_type u (scalar I64)) [
-                        | yes e ↦ yes (rw e (_, 8, int_to_i64))
-                        | no i ↦
-                            elim (same_type u (scalar U64)) [
-                              | yes e ↦ yes (rw e (_, 9, int_to_u64))
-                              | no j ↦
-                                  elim (same_type u (scalar F32)) [
-                                    | yes e ↦ yes (rw e (_, 1, float_to_f32))
-                                    | no d ↦
-                                        elim (same_type u (scalar F16)) [
-                                          | yes e ↦ yes (rw e (_, 2, float_to_f16))
-                                          | no e ↦
-                                              elim (same_type u (variant_of u precision.F32)) [
-                                                | yes q ↦ yes (subst IsBaseChild (sym q) (_, 1, result_to_f32 (function_of u) (shape_of u)))
-                                                | no f ↦
-                                                    elim (same_type u (variant_of u precision.F16)) [
-                                                      | yes q ↦ yes (subst IsBaseChild (sym q) (_, 2, result_to_f16 (function_of u) (shape_of u)))
-                                                      | no g ↦
-                                                          no (λ h. base_refuted h.2 a b c i j d e f g)
-                                                    ]
-                                              ]
-                                        ]
-                                  ]
-                            ]
-                      ]
-                ]
-          ]
-    ]
+    or_else (same_type u (scalar AbstractFloat)) (λ e. rw e (_, 5, int_to_float)) (λ a.
+    or_else (same_type u (scalar I32)) (λ e. rw e (_, 3, int_to_i32)) (λ b.
+    or_else (same_type u (scalar U32)) (λ e. rw e (_, 4, int_to_u32)) (λ c.
+    or_else (same_type u (scalar I64)) (λ e. rw e (_, 8, int_to_i64)) (λ i.
+    or_else (same_type u (scalar U64)) (λ e. rw e (_, 9, int_to_u64)) (λ j.
+    or_else (same_type u (scalar F32)) (λ e. rw e (_, 1, float_to_f32)) (λ d.
+    or_else (same_type u (scalar F16)) (λ e. rw e (_, 2, float_to_f16)) (λ e.
+    or_else (same_type u (variant_of u precision.F32)) (λ q. subst IsBaseChild (sym q) (_, 1, result_to_f32 (function_of u) (shape_of u))) (λ f.
+    or_else (same_type u (variant_of u precision.F16)) (λ q. subst IsBaseChild (sym q) (_, 2, result_to_f16 (function_of u) (shape_of u))) (λ g.
+    no (λ h. base_refuted h.2 a b c i j d e f g))))))))))
 
 abbrev pub IsChild : WgslType → Type 0
 IsChild u = (t : WgslType) × (w : ℕ) × Step t u w

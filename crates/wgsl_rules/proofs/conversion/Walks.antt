@@ -1,6 +1,6 @@
 -- A conversion between nodes is a walk from the target to its parents, until it meets the source.
 use Rattle.std.proofs.Common.{◌≡◌, ◌≢◌, ℕ, ◌+◌, ◌-◌, ◌<◌, ◌≤◌, ◌↔◌, Some, None, cond, eqb, refl, sym, ◌∙◌, ap, subst, inl, inr, arith}
-use Rattle.wgsl_rules.proofs.Common.{Scalar, Bool, AbstractInt, AbstractFloat, I32, U32, F32, F16, I64, U64, F64, AddressSpace, AccessMode, ResultFunction, ResultShape, ResultPrecision, WgslType, scalar, within, reference, float_of, result_struct, MayRead, Node, at_scalar, at_result, type_at, parent_of, rank_from_root}
+use Rattle.wgsl_rules.proofs.Common.{Scalar, AbstractInt, AbstractFloat, I32, U32, F32, F16, I64, U64, AddressSpace, AccessMode, ResultFunction, ResultShape, ResultPrecision, WgslType, scalar, within, reference, float_of, result_struct, MayRead, Node, at_scalar, at_result, type_at, parent_of, rank_from_root}
 use Rattle.wgsl_syntax.specs.declared.result_struct.ResultPrecision.TheVariants as precision
 use Rattle.wgsl_rules.specs.conversion.Conversion.{BaseStep, int_to_float, int_to_i32, int_to_u32, int_to_i64, int_to_u64, float_to_f32, float_to_f16, result_to_f32, result_to_f16, Step, base, inside, Path, PathOf, Load, load, load_inside, Converts, ConvertsIn}
 use Rattle.wgsl_rules.proofs.conversion.Steps.{float_depth, depth, depth-result_struct, height, height_small, step_height, function_of, function_of-result_struct, shape_of, shape_of-result_struct, precision_at, IsLeaf, result_leaf}
@@ -14,8 +14,7 @@ precision_in d = cond (eqb d 0) precision.Abstract (precision_at d)
 
 precision_in-depth : (p : ResultPrecision) → precision_in (float_depth (float_of p)) ≡ p
 precision_in-depth precision.Abstract = refl
-precision_in-depth precision.F32 = refl
-precision_in-depth precision.F16 = refl
+precision_in-depth _ = refl
 
 scalar_no_result : (r : Scalar) (f : ResultFunction) (s : ResultShape) (p : ResultPrecision) → scalar r ≡ result_struct f s p → ⊥
 unfolding result_struct
@@ -34,19 +33,10 @@ type_at_once (at_result f s p) (at_result g r q) e =
     cc (ef, es, ep)
 
 pub depth-type_at : (p : Node) → depth (type_at p) ≡ rank_from_root p
-depth-type_at (at_scalar Bool) = refl
-depth-type_at (at_scalar AbstractInt) = refl
-depth-type_at (at_scalar AbstractFloat) = refl
-depth-type_at (at_scalar I32) = refl
-depth-type_at (at_scalar U32) = refl
-depth-type_at (at_scalar F32) = refl
-depth-type_at (at_scalar F16) = refl
-depth-type_at (at_scalar I64) = refl
-depth-type_at (at_scalar U64) = refl
-depth-type_at (at_scalar F64) = refl
 depth-type_at (at_result f s precision.Abstract) = depth-result_struct f s precision.Abstract
 depth-type_at (at_result f s precision.F32) = depth-result_struct f s precision.F32
 depth-type_at (at_result f s precision.F16) = depth-result_struct f s precision.F16
+depth-type_at _ = refl
 
 node_leaf : (p : Node) → IsLeaf (type_at p)
 node_leaf (at_scalar s) = tt
@@ -85,10 +75,9 @@ parent_below (at_scalar U64) q e = below (at_scalar U64) (at_scalar AbstractInt)
 parent_below (at_scalar AbstractFloat) q e = below (at_scalar AbstractFloat) (at_scalar AbstractInt) q (cc e) (omega arith)
 parent_below (at_scalar F32) q e = below (at_scalar F32) (at_scalar AbstractFloat) q (cc e) (omega arith)
 parent_below (at_scalar F16) q e = below (at_scalar F16) (at_scalar AbstractFloat) q (cc e) (omega arith)
-parent_below (at_scalar s) q e = absurd (cc e)
 parent_below (at_result f s precision.F32) q e = below (at_result f s precision.F32) (at_result f s precision.Abstract) q (cc e) (omega arith)
 parent_below (at_result f s precision.F16) q e = below (at_result f s precision.F16) (at_result f s precision.Abstract) q (cc e) (omega arith)
-parent_below (at_result f s precision.Abstract) q e = absurd (cc e)
+parent_below _ q e = absurd (cc e)
 
 abbrev ParentStep : Node → Node → Type 0
 ParentStep p q = Step (type_at q) (type_at p) (rank_from_root p - rank_from_root q)
@@ -101,10 +90,9 @@ parent_step (at_scalar U64) q e = let k : at_scalar AbstractInt ≡ q = cc e in 
 parent_step (at_scalar AbstractFloat) q e = let k : at_scalar AbstractInt ≡ q = cc e in subst (λ q. ParentStep (at_scalar AbstractFloat) q) k (base int_to_float)
 parent_step (at_scalar F32) q e = let k : at_scalar AbstractFloat ≡ q = cc e in subst (λ q. ParentStep (at_scalar F32) q) k (base float_to_f32)
 parent_step (at_scalar F16) q e = let k : at_scalar AbstractFloat ≡ q = cc e in subst (λ q. ParentStep (at_scalar F16) q) k (base float_to_f16)
-parent_step (at_scalar s) q e = absurd (cc e)
 parent_step (at_result f s precision.F32) q e = let k : at_result f s precision.Abstract ≡ q = cc e in subst (λ q. ParentStep (at_result f s precision.F32) q) k (base (result_to_f32 f s))
 parent_step (at_result f s precision.F16) q e = let k : at_result f s precision.Abstract ≡ q = cc e in subst (λ q. ParentStep (at_result f s precision.F16) q) k (base (result_to_f16 f s))
-parent_step (at_result f s precision.Abstract) q e = absurd (cc e)
+parent_step _ q e = absurd (cc e)
 
 -- a step to a node starts at its parent
 pub step_to_node : {t u : WgslType} {w : ℕ} → Step t u w → (p : Node) → u ≡ type_at p →

@@ -1,6 +1,6 @@
 -- A type has at most one size and one alignment.
 use Rattle.std.proofs.Common.{◌≡◌, ℕ, ◌*◌, ◌≤◌, ◌↔◌, inl, inr, List, [], ◌∷◌, Option, Some, None, refl, sym, ap, subst, ◌∙◌, arith}
-use Rattle.wgsl_rules.proofs.Common.{RuleSet, Ported, Standard, Scalar, AbstractInt, AbstractFloat, I32, U32, F32, F16, I64, U64, WgslType, scalar, struct, atomic, Members, no_members, member, array, vec, mat, MemberLayout, IsLeastTotal, greatest, IsLeastPlacedSize}
+use Rattle.wgsl_rules.proofs.Common.{RuleSet, Ported, Standard, Scalar, AbstractInt, AbstractFloat, I32, U32, F32, F16, I64, WgslType, scalar, struct, atomic, Members, no_members, member, array, vec, mat, MemberLayout, IsLeastTotal, greatest, IsLeastPlacedSize}
 use Rattle.wgsl_rules.specs.layout.Layout.{IsScalarSize, IsAtomicSize, IsTimes, IsRoundedUp, IsStride, IsArraySize, IsAlignOfThreeBy, IsVectorAlignBy, IsGiven, IsStructSize, IsStructAlign, HasSizeBy, HasAlignmentBy, HaveLayouts, HaveLayoutsBy, HaveAlignmentsBy, IsExactly, HasNoSize}
 use Rattle.wgsl_rules.proofs.layout.Placing.{same_least}
 
@@ -14,8 +14,7 @@ one_scalar s m n a b = a ∙ sym b
 
 one_atomic : (t : WgslType) → IsOne (IsAtomicSize t)
 one_atomic (scalar I64) m n a b = a ∙ sym b
-one_atomic (scalar U64) m n a b = a ∙ sym b
-one_atomic t m n a b = a ∙ sym b
+one_atomic _ m n a b = a ∙ sym b
 
 pub one_times : (k : ℕ) (S : ℕ → Type 0) → IsOne S → IsOne (IsTimes k S)
 one_times k S one m n a b = a.2 ∙ ap (λ (x : ℕ). k * x) (one a.0 b.0 a.1 b.1) ∙ sym b.2

@@ -82,9 +82,8 @@ no_earlier e f (p ∷ ps) (o ∷ os) total al le h (suc k) =
 
 pub laid_sooner : (e f : ℕ) (ps : List MemberLayout) (os : List ℕ) (total : ℕ) → e ≤ f → AreLaid f ps os total → AreLaid e ps os total
 laid_sooner e f [] [] total le h = omega arith
-laid_sooner e f [] (o ∷ os) total le h = absurd h
-laid_sooner e f (p ∷ ps) [] total le h = absurd h
 laid_sooner e f (p ∷ ps) (o ∷ os) total le h = (h.0, let at : f ≤ o = h.1 in omega arith, h.2)
+laid_sooner e f _ _ total le h = absurd h
 
 -- the total is not below the start
 pub laid_before : (e : ℕ) (ps : List MemberLayout) (os : List ℕ) (total : ℕ) → AreLaid e ps os total → e ≤ total

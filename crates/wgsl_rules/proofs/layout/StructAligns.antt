@@ -58,9 +58,8 @@ struct_align rules name ms r h n = (λ e. let f = (h n).0 e in (f.0, f.1, omega 
 
 pub alignments : (rules : RuleSet) (ms : Members) (ls : List MemberLayout) → HaveLayoutsBy rules ms ls → HaveAlignmentsBy rules ms (map (λ l. l.align) ls)
 alignments rules no_members [] known = tt
-alignments rules no_members (l ∷ ls) known = absurd known
-alignments rules (member name t size align ms) [] known = absurd known
 alignments rules (member name t size align ms) (l ∷ ls) known = (known.1, alignments rules ms ls known.2)
+alignments rules _ _ known = absurd known
 
 pub sized_is_aligned : (rules : RuleSet) (ms : Members) (n : ℕ) → IsStructSize (HaveLayoutsBy rules ms) n → (a : ℕ) × IsStructAlign (HaveAlignmentsBy rules ms) a
 sized_is_aligned rules ms n h = let aligns = map (λ l. l.align) h.layouts in (greatest aligns, (aligns, alignments rules ms h.layouts h.known, refl))

@@ -174,10 +174,9 @@ some_choice n ts us r va q h =
 
 pub contrary : (vs ws : List ℕ) → IsNowhereMore vs ws → IsSomewhereLess ws vs → ⊥
 contrary [] [] h k = k
-contrary [] (w ∷ ws) h k = h
-contrary (v ∷ vs) [] h k = h
 contrary (v ∷ vs) (w ∷ ws) h (inl k) = omega (arith, h.0, k)
 contrary (v ∷ vs) (w ∷ ws) h (inr k) = contrary vs ws h.1 k
+contrary _ _ h k = h
 
 pub choice_once : (n : Name) (ts us vs : List WgslType) (r s : WgslType) → IsLeastCandidate n ts us r → IsLeastCandidate n ts vs s → (us ≡ vs) × (r ≡ s)
 choice_once n ts us vs r s a b =

@@ -95,9 +95,8 @@ puts_taken (fixed u ∷ ss) c (t ∷ ts) es p vs g =
 -- a c closer to the root has lower ranks
 
 fill_depth : (s : Slot) (b c : WgslType) → depth b ≤ depth c → depth (fill s b) ≤ depth (fill s c)
-fill_depth whole b c h = h
-fill_depth (inner l) b c h = h
 fill_depth (fixed t) b c h = le_refl (depth t)
+fill_depth _ b c h = h
 
 pub nowhere_more : (ss : List Slot) (b c : WgslType) (ts : List WgslType) (vs ws : List ℕ) → All IsValueType ts → depth b ≤ depth c →
     HasRanks ts (fill_all ss b) vs → HasRanks ts (fill_all ss c) ws → IsNowhereMore vs ws
@@ -145,12 +144,10 @@ put_once (fixed u ∷ ss) (t ∷ ts) es fs p q = put_once ss ts es fs p.1 q.1
 
 put_some : (ss : List Slot) (ts es : List WgslType) → HasOpen ss → IsPut ss ts es → es ≢ []
 put_some [] ts es o p = absurd o
-put_some (whole ∷ ss) [] es o p = absurd p
-put_some (inner l ∷ ss) [] es o p = absurd p
-put_some (fixed u ∷ ss) [] es o p = absurd p
 put_some (whole ∷ ss) (t ∷ ts) es o p = λ q. cc (p.1, q)
 put_some (inner l ∷ ss) (t ∷ ts) es o p = λ q. cc (p.3, q)
 put_some (fixed u ∷ ss) (t ∷ ts) es o p = put_some ss ts es o p.1
+put_some _ _ es o p = absurd p
 
 -- The member of a family at the least common type: it takes the operands, and others that take them have higher ranks.
 pub record IsLeastOf (ss : List Slot) (ts : List WgslType) (b : WgslType) : Type 0 where

@@ -39,45 +39,29 @@ IsDown (vector_of k) = IsDown k
 IsDown k = Unit {0}
 
 admits_int : (k : Kind) (s : Scalar) → IsDown k → ¬ IsBool s → Admits k (scalar s) → Admits k (scalar AbstractInt)
-admits_int any_type s d n h = tt
-admits_int any_scalar s d n h = tt
-admits_int an_integer s d n h = tt
-admits_int a_number s d n h = tt
 admits_int a_float s d n h = absurd d
 admits_int a_bool s d n h = absurd (n h)
 admits_int an_integer_or_bool s d n h = inl tt
-admits_int scalar_or_vector s d n h = tt
 admits_int no_type s d n h = absurd h
 admits_int (or_vector k) s d n h = admits_int k s d n h
 admits_int (vector_of k) s d n h = absurd h
+admits_int _ s d n h = tt
 
 admits_float : (k : Kind) (s : Scalar) → IsDown k → ¬ IsBool s → ¬ IsInteger s → Admits k (scalar s) → Admits k (scalar AbstractFloat)
-admits_float any_type s d n m h = tt
-admits_float any_scalar s d n m h = tt
 admits_float an_integer s d n m h = absurd (m h)
-admits_float a_number s d n m h = tt
 admits_float a_float s d n m h = absurd d
 admits_float a_bool s d n m h = absurd (n h)
 admits_float an_integer_or_bool s d n m (inl h) = absurd (m h)
 admits_float an_integer_or_bool s d n m (inr h) = absurd (n h)
-admits_float scalar_or_vector s d n m h = tt
 admits_float no_type s d n m h = absurd h
 admits_float (or_vector k) s d n m h = admits_float k s d n m h
 admits_float (vector_of k) s d n m h = absurd h
+admits_float _ s d n m h = tt
 
 admits_result : (k : Kind) (m : ResultFunction) (s : ResultShape) (p q : ResultPrecision) → Admits k (result_struct m s p) → Admits k (result_struct m s q)
 unfolding result_struct
 admits_result any_type m s p q h = tt
-admits_result any_scalar m s p q h = absurd h
-admits_result an_integer m s p q h = absurd h
-admits_result a_number m s p q h = absurd h
-admits_result a_float m s p q h = absurd h
-admits_result a_bool m s p q h = absurd h
-admits_result an_integer_or_bool m s p q h = absurd h
-admits_result scalar_or_vector m s p q h = absurd h
-admits_result no_type m s p q h = absurd h
-admits_result (or_vector k) m s p q h = absurd h
-admits_result (vector_of k) m s p q h = absurd h
+admits_result _ m s p q h = absurd h
 
 base_admits : {t u : WgslType} {w : ℕ} → BaseStep t u w → (k : Kind) → IsDown k → Admits k u → Admits k t
 base_admits int_to_float k d h = admits_int k AbstractFloat d (λ n. n) h
@@ -97,19 +81,10 @@ Passes Q t u = (k : Kind) → Q k → Admits k t → Admits k u
 layer_passes : (Q : Kind → Type 0) → ((k : Kind) → Q (or_vector k) → Q k) → ((k : Kind) → Q (vector_of k) → Q k) → (l : Layer) (t u : WgslType) →
     Passes Q t u → Passes Q (within l t) (within l u)
 layer_passes Q o v l t u f any_type q h = tt
-layer_passes Q o v l t u f any_scalar q h = absurd h
-layer_passes Q o v l t u f an_integer q h = absurd h
-layer_passes Q o v l t u f a_number q h = absurd h
-layer_passes Q o v l t u f a_float q h = absurd h
-layer_passes Q o v l t u f a_bool q h = absurd h
-layer_passes Q o v l t u f an_integer_or_bool q h = absurd h
 layer_passes Q o v (vec_of n) t u f scalar_or_vector q h = tt
-layer_passes Q o v l t u f scalar_or_vector q h = absurd h
-layer_passes Q o v l t u f no_type q h = absurd h
 layer_passes Q o v (vec_of n) t u f (or_vector k) q h = f k (o k q) h
-layer_passes Q o v l t u f (or_vector k) q h = absurd h
 layer_passes Q o v (vec_of n) t u f (vector_of k) q h = f k (v k q) h
-layer_passes Q o v l t u f (vector_of k) q h = absurd h
+layer_passes _ o v l t u f _ q h = absurd h
 
 step_admits : {t u : WgslType} {w : ℕ} → Step t u w → (k : Kind) → IsDown k → Admits k u → Admits k t
 step_admits (base b) k d h = base_admits b k d h
@@ -128,17 +103,15 @@ IsUp (vector_of k) = IsUp k
 IsUp k = Unit {0}
 
 admitted_scalar : (k : Kind) (s r : Scalar) → IsUp k → ¬ IsBool s → (IsFloat s → IsFloat r) → IsNumeric r → Admits k (scalar s) → Admits k (scalar r)
-admitted_scalar any_type s r u n f m h = tt
-admitted_scalar any_scalar s r u n f m h = tt
 admitted_scalar an_integer s r u n f m h = absurd u
 admitted_scalar a_number s r u n f m h = m
 admitted_scalar a_float s r u n f m h = f h
 admitted_scalar a_bool s r u n f m h = absurd (n h)
 admitted_scalar an_integer_or_bool s r u n f m h = absurd u
-admitted_scalar scalar_or_vector s r u n f m h = tt
 admitted_scalar no_type s r u n f m h = absurd h
 admitted_scalar (or_vector k) s r u n f m h = admitted_scalar k s r u n f m h
 admitted_scalar (vector_of k) s r u n f m h = absurd h
+admitted_scalar _ s r u n f m h = tt
 
 base_admitted : {t u : WgslType} {w : ℕ} → BaseStep t u w → (k : Kind) → IsUp k → Admits k t → Admits k u
 base_admitted int_to_float k u h = admitted_scalar k AbstractInt AbstractFloat u (λ n. n) (λ n. tt) tt h
@@ -176,14 +149,7 @@ outers (t ∷ ts) = outer t ∷ outers ts
 base_outer : {t u : WgslType} {w : ℕ} → BaseStep t u w → outer t ≡ outer u
 unfolding result_struct
 base_outer int_to_float = refl
-base_outer int_to_i32 = refl
-base_outer int_to_u32 = refl
-base_outer int_to_i64 = refl
-base_outer int_to_u64 = refl
-base_outer float_to_f32 = refl
-base_outer float_to_f16 = refl
-base_outer (result_to_f32 m s) = refl
-base_outer (result_to_f16 m s) = refl
+base_outer _ = refl
 
 step_outer : {t u : WgslType} {w : ℕ} → Step t u w → outer t ≡ outer u
 step_outer (base b) = base_outer b

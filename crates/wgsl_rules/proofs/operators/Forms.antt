@@ -15,6 +15,10 @@ pub record Form (n : Name) : Type 0 where
   pub opens : HasOpen slots
   pub sound : (c : WgslType) → Admits kind c → IsCandidate n (fill_all slots c) (gives c)
 
+abbrev family : {n : Name} (slots : List Slot) (gives : WgslType → WgslType) (kind : Kind) → HasOpen slots
+    → ((c : WgslType) → Admits kind c → IsCandidate n (fill_all slots c) (gives c)) → Option (Form n)
+family slots gives kind opens sound = Some (record { slots = slots; gives = gives; kind = kind; opens = opens; sound = sound })
+
 pub for_scalar : (P : WgslType → Type 0) → ((s : Scalar) → P (scalar s)) → (c : WgslType) → Admits any_scalar c → P c
 for_scalar P f (scalar s) h = f s
 for_scalar P f c h = absurd h
@@ -36,160 +40,65 @@ for_integer_or_bool P f p (scalar s) h = elim h [ inl k ↦ f s k | inr k ↦ fr
 for_integer_or_bool P f p c h = absurd h
 
 abbrev pub arithmetic : (o : BinaryOperator) → IsArithmetic o → List Outer → Option (Form (operator o))
-arithmetic o h (plain ∷ plain ∷ []) = Some (record {
-  slots = whole ∷ whole ∷ [];
-  gives = λ c. c;
-  kind = any_scalar;
-  opens = tt;
-  sound = for_scalar (λ c. IsCandidate (operator o) (c ∷ c ∷ []) c) (scalars o h);
-})
-arithmetic o h (layer (vec_of n) ∷ layer (vec_of m) ∷ []) = Some (record {
-  slots = inner (vec_of n) ∷ inner (vec_of n) ∷ [];
-  gives = λ t. within (vec_of n) t;
-  kind = any_type;
-  opens = tt;
-  sound = λ c a. vectors o h n c;
-})
-arithmetic o h (plain ∷ layer (vec_of n) ∷ []) = Some (record {
-  slots = whole ∷ inner (vec_of n) ∷ [];
-  gives = λ t. within (vec_of n) t;
-  kind = any_scalar;
-  opens = tt;
-  sound = for_scalar (λ c. IsCandidate (operator o) (c ∷ vec n c ∷ []) (vec n c)) (λ s. scalar_vector o h s n);
-})
-arithmetic o h (layer (vec_of n) ∷ plain ∷ []) = Some (record {
-  slots = inner (vec_of n) ∷ whole ∷ [];
-  gives = λ t. within (vec_of n) t;
-  kind = any_scalar;
-  opens = tt;
-  sound = for_scalar (λ c. IsCandidate (operator o) (vec n c ∷ c ∷ []) (vec n c)) (λ s. vector_scalar o h s n);
-})
+arithmetic o h (plain ∷ plain ∷ []) =
+    family (whole ∷ whole ∷ []) (λ c. c) any_scalar tt (for_scalar (λ c. IsCandidate (operator o) (c ∷ c ∷ []) c) (scalars o h))
+arithmetic o h (layer (vec_of n) ∷ layer (vec_of m) ∷ []) =
+    family (inner (vec_of n) ∷ inner (vec_of n) ∷ []) (λ t. within (vec_of n) t) any_type tt (λ c a. vectors o h n c)
+arithmetic o h (plain ∷ layer (vec_of n) ∷ []) =
+    family (whole ∷ inner (vec_of n) ∷ []) (λ t. within (vec_of n) t) any_scalar tt (for_scalar (λ c. IsCandidate (operator o) (c ∷ vec n c ∷ []) (vec n c)) (λ s. scalar_vector o h s n))
+arithmetic o h (layer (vec_of n) ∷ plain ∷ []) =
+    family (inner (vec_of n) ∷ whole ∷ []) (λ t. within (vec_of n) t) any_scalar tt (for_scalar (λ c. IsCandidate (operator o) (vec n c ∷ c ∷ []) (vec n c)) (λ s. vector_scalar o h s n))
 arithmetic o h os = None
 
 abbrev pub sums : (o : BinaryOperator) → IsSum o → List Outer → Option (Form (operator o))
-sums o h (layer (mat_of c r) ∷ layer (mat_of d s) ∷ []) = Some (record {
-  slots = inner (mat_of c r) ∷ inner (mat_of c r) ∷ [];
-  gives = λ t. within (mat_of c r) t;
-  kind = any_type;
-  opens = tt;
-  sound = λ e a. matrices o h c r e;
-})
+sums o h (layer (mat_of c r) ∷ layer (mat_of d s) ∷ []) =
+    family (inner (mat_of c r) ∷ inner (mat_of c r) ∷ []) (λ t. within (mat_of c r) t) any_type tt (λ e a. matrices o h c r e)
 sums o h os = None
 
 abbrev pub matrix_products : List Outer → Option (Form (operator Multiplication))
-matrix_products (plain ∷ layer (mat_of c r) ∷ []) = Some (record {
-  slots = whole ∷ inner (mat_of c r) ∷ [];
-  gives = λ t. within (mat_of c r) t;
-  kind = any_scalar;
-  opens = tt;
-  sound = for_scalar (λ e. IsCandidate (operator Multiplication) (e ∷ mat c r e ∷ []) (mat c r e)) (λ s. scalar_matrix s c r);
-})
-matrix_products (layer (mat_of c r) ∷ plain ∷ []) = Some (record {
-  slots = inner (mat_of c r) ∷ whole ∷ [];
-  gives = λ t. within (mat_of c r) t;
-  kind = any_scalar;
-  opens = tt;
-  sound = for_scalar (λ e. IsCandidate (operator Multiplication) (mat c r e ∷ e ∷ []) (mat c r e)) (λ s. matrix_scalar s c r);
-})
-matrix_products (layer (vec_of n) ∷ layer (mat_of c r) ∷ []) = Some (record {
-  slots = inner (vec_of r) ∷ inner (mat_of c r) ∷ [];
-  gives = λ t. within (vec_of c) t;
-  kind = any_type;
-  opens = tt;
-  sound = λ e a. vector_matrix c r e;
-})
-matrix_products (layer (mat_of c r) ∷ layer (vec_of n) ∷ []) = Some (record {
-  slots = inner (mat_of c r) ∷ inner (vec_of c) ∷ [];
-  gives = λ t. within (vec_of r) t;
-  kind = any_type;
-  opens = tt;
-  sound = λ e a. matrix_vector c r e;
-})
-matrix_products (layer (mat_of k r) ∷ layer (mat_of c n) ∷ []) = Some (record {
-  slots = inner (mat_of k r) ∷ inner (mat_of c k) ∷ [];
-  gives = λ t. within (mat_of c r) t;
-  kind = any_type;
-  opens = tt;
-  sound = λ e a. matrix_matrix k c r e;
-})
+matrix_products (plain ∷ layer (mat_of c r) ∷ []) =
+    family (whole ∷ inner (mat_of c r) ∷ []) (λ t. within (mat_of c r) t) any_scalar tt (for_scalar (λ e. IsCandidate (operator Multiplication) (e ∷ mat c r e ∷ []) (mat c r e)) (λ s. scalar_matrix s c r))
+matrix_products (layer (mat_of c r) ∷ plain ∷ []) =
+    family (inner (mat_of c r) ∷ whole ∷ []) (λ t. within (mat_of c r) t) any_scalar tt (for_scalar (λ e. IsCandidate (operator Multiplication) (mat c r e ∷ e ∷ []) (mat c r e)) (λ s. matrix_scalar s c r))
+matrix_products (layer (vec_of n) ∷ layer (mat_of c r) ∷ []) =
+    family (inner (vec_of r) ∷ inner (mat_of c r) ∷ []) (λ t. within (vec_of c) t) any_type tt (λ e a. vector_matrix c r e)
+matrix_products (layer (mat_of c r) ∷ layer (vec_of n) ∷ []) =
+    family (inner (mat_of c r) ∷ inner (vec_of c) ∷ []) (λ t. within (vec_of r) t) any_type tt (λ e a. matrix_vector c r e)
+matrix_products (layer (mat_of k r) ∷ layer (mat_of c n) ∷ []) =
+    family (inner (mat_of k r) ∷ inner (mat_of c k) ∷ []) (λ t. within (mat_of c r) t) any_type tt (λ e a. matrix_matrix k c r e)
 matrix_products os = None
 
 abbrev pub comparisons : (o : BinaryOperator) → IsComparison o → List Outer → Option (Form (operator o))
-comparisons o h (plain ∷ plain ∷ []) = Some (record {
-  slots = whole ∷ whole ∷ [];
-  gives = λ c. scalar Bool;
-  kind = any_scalar;
-  opens = tt;
-  sound = for_scalar (λ c. IsCandidate (operator o) (c ∷ c ∷ []) (scalar Bool)) (compared o h);
-})
-comparisons o h (layer (vec_of n) ∷ layer (vec_of m) ∷ []) = Some (record {
-  slots = inner (vec_of n) ∷ inner (vec_of n) ∷ [];
-  gives = λ c. vec n (scalar Bool);
-  kind = any_type;
-  opens = tt;
-  sound = λ c a. compared_vectors o h n c;
-})
+comparisons o h (plain ∷ plain ∷ []) =
+    family (whole ∷ whole ∷ []) (λ c. scalar Bool) any_scalar tt (for_scalar (λ c. IsCandidate (operator o) (c ∷ c ∷ []) (scalar Bool)) (compared o h))
+comparisons o h (layer (vec_of n) ∷ layer (vec_of m) ∷ []) =
+    family (inner (vec_of n) ∷ inner (vec_of n) ∷ []) (λ c. vec n (scalar Bool)) any_type tt (λ c a. compared_vectors o h n c)
 comparisons o h os = None
 
 abbrev pub logicals : (o : BinaryOperator) → IsLogical o → List Outer → Option (Form (operator o))
-logicals o h (plain ∷ plain ∷ []) = Some (record {
-  slots = whole ∷ whole ∷ [];
-  gives = λ c. c;
-  kind = a_bool;
-  opens = tt;
-  sound = for_bool (λ c. IsCandidate (operator o) (c ∷ c ∷ []) c) (logical o h);
-})
+logicals o h (plain ∷ plain ∷ []) =
+    family (whole ∷ whole ∷ []) (λ c. c) a_bool tt (for_bool (λ c. IsCandidate (operator o) (c ∷ c ∷ []) c) (logical o h))
 logicals o h os = None
 
 abbrev pub or_ands : (o : BinaryOperator) → IsBitwise o → IsOrAnd o → List Outer → Option (Form (operator o))
-or_ands o h k (plain ∷ plain ∷ []) = Some (record {
-  slots = whole ∷ whole ∷ [];
-  gives = λ c. c;
-  kind = an_integer;
-  opens = tt;
-  sound = for_integer (λ c. IsCandidate (operator o) (c ∷ c ∷ []) c) (bits o h);
-})
-or_ands o h k (layer (vec_of n) ∷ layer (vec_of m) ∷ []) = Some (record {
-  slots = inner (vec_of n) ∷ inner (vec_of n) ∷ [];
-  gives = λ t. within (vec_of n) t;
-  kind = an_integer_or_bool;
-  opens = tt;
-  sound = for_integer_or_bool (λ c. IsCandidate (operator o) (vec n c ∷ vec n c ∷ []) (vec n c)) (bits_vectors o h n) (bools_vectors o k n);
-})
+or_ands o h k (plain ∷ plain ∷ []) =
+    family (whole ∷ whole ∷ []) (λ c. c) an_integer tt (for_integer (λ c. IsCandidate (operator o) (c ∷ c ∷ []) c) (bits o h))
+or_ands o h k (layer (vec_of n) ∷ layer (vec_of m) ∷ []) =
+    family (inner (vec_of n) ∷ inner (vec_of n) ∷ []) (λ t. within (vec_of n) t) an_integer_or_bool tt (for_integer_or_bool (λ c. IsCandidate (operator o) (vec n c ∷ vec n c ∷ []) (vec n c)) (bits_vectors o h n) (bools_vectors o k n))
 or_ands o h k os = None
 
 abbrev pub exclusive_or : List Outer → Option (Form (operator BitwiseXor))
-exclusive_or (plain ∷ plain ∷ []) = Some (record {
-  slots = whole ∷ whole ∷ [];
-  gives = λ c. c;
-  kind = an_integer;
-  opens = tt;
-  sound = for_integer (λ c. IsCandidate (operator BitwiseXor) (c ∷ c ∷ []) c) (bits BitwiseXor tt);
-})
-exclusive_or (layer (vec_of n) ∷ layer (vec_of m) ∷ []) = Some (record {
-  slots = inner (vec_of n) ∷ inner (vec_of n) ∷ [];
-  gives = λ t. within (vec_of n) t;
-  kind = an_integer;
-  opens = tt;
-  sound = for_integer (λ c. IsCandidate (operator BitwiseXor) (vec n c ∷ vec n c ∷ []) (vec n c)) (bits_vectors BitwiseXor tt n);
-})
+exclusive_or (plain ∷ plain ∷ []) =
+    family (whole ∷ whole ∷ []) (λ c. c) an_integer tt (for_integer (λ c. IsCandidate (operator BitwiseXor) (c ∷ c ∷ []) c) (bits BitwiseXor tt))
+exclusive_or (layer (vec_of n) ∷ layer (vec_of m) ∷ []) =
+    family (inner (vec_of n) ∷ inner (vec_of n) ∷ []) (λ t. within (vec_of n) t) an_integer tt (for_integer (λ c. IsCandidate (operator BitwiseXor) (vec n c ∷ vec n c ∷ []) (vec n c)) (bits_vectors BitwiseXor tt n))
 exclusive_or os = None
 
 abbrev pub shifts : (o : BinaryOperator) → IsShift o → List Outer → Option (Form (operator o))
-shifts o h (plain ∷ plain ∷ []) = Some (record {
-  slots = whole ∷ fixed (scalar U32) ∷ [];
-  gives = λ c. c;
-  kind = an_integer;
-  opens = tt;
-  sound = for_integer (λ c. IsCandidate (operator o) (c ∷ scalar U32 ∷ []) c) (shifted o h);
-})
-shifts o h (layer (vec_of n) ∷ layer (vec_of m) ∷ []) = Some (record {
-  slots = inner (vec_of n) ∷ fixed (vec n (scalar U32)) ∷ [];
-  gives = λ t. within (vec_of n) t;
-  kind = an_integer;
-  opens = tt;
-  sound = for_integer (λ c. IsCandidate (operator o) (vec n c ∷ vec n (scalar U32) ∷ []) (vec n c)) (shifted_vectors o h n);
-})
+shifts o h (plain ∷ plain ∷ []) =
+    family (whole ∷ fixed (scalar U32) ∷ []) (λ c. c) an_integer tt (for_integer (λ c. IsCandidate (operator o) (c ∷ scalar U32 ∷ []) c) (shifted o h))
+shifts o h (layer (vec_of n) ∷ layer (vec_of m) ∷ []) =
+    family (inner (vec_of n) ∷ fixed (vec n (scalar U32)) ∷ []) (λ t. within (vec_of n) t) an_integer tt (for_integer (λ c. IsCandidate (operator o) (vec n c ∷ vec n (scalar U32) ∷ []) (vec n c)) (shifted_vectors o h n))
 shifts o h os = None
 
 -- The types of a function's candidates (t, t) and (t, t, t)
@@ -237,8 +146,7 @@ admits_float_vector t h = absurd h
 
 is_float_vector : (t : WgslType) → Admits (vector_of a_float) t → IsFloatVector t
 is_float_vector (within (vec_of n) (scalar s)) h = h
-is_float_vector (within (vec_of n) t) h = absurd h
-is_float_vector t h = absurd h
+is_float_vector _ h = absurd h
 
 pub admitted_for : (n : Name) (t : WgslType) → IsFor n t → Admits (kind_of n) t
 admitted_for min t h = admits_number t h
@@ -278,21 +186,15 @@ abbrev pub two : (n : Name) → IsOfTwo n → Form n
 two n h = pair_form n (kind_of n) (λ t. t) (λ c a. of_two n h c (is_for n c a))
 
 abbrev pub three : (n : Name) → IsOfThree n → Form n
-three n h = record {
-  slots = whole ∷ whole ∷ whole ∷ [];
-  gives = λ t. t;
-  kind = kind_of n;
-  opens = tt;
-  sound = λ c a. of_three n h c (is_for n c a);
-}
+three n h =
+    record { slots = whole ∷ whole ∷ whole ∷ []; gives = λ t. t; kind = kind_of n; opens = tt; sound = λ c a. of_three n h c (is_for n c a) }
 
 abbrev pub distance_form : Form distance
 distance_form = pair_form distance (or_vector a_float) inner_of (λ c a. distances c (is_float_or_vector c a))
 
 pub dot_sound : (c : WgslType) → Admits (vector_of a_number) c → IsCandidate dot (c ∷ c ∷ []) (inner_of c)
 dot_sound (within (vec_of n) (scalar s)) h = products n s h
-dot_sound (within (vec_of n) t) h = absurd h
-dot_sound t h = absurd h
+dot_sound _ h = absurd h
 
 abbrev pub dot_form : Form dot
 dot_form = pair_form dot (vector_of a_number) inner_of dot_sound
@@ -302,13 +204,8 @@ mixed_sound n h k (scalar s) a = mixed n h k s a
 mixed_sound n h k c a = absurd a
 
 abbrev pub mixed_form : (n : Name) → IsMixed n → ℕ → Form n
-mixed_form n h k = record {
-  slots = inner (vec_of k) ∷ inner (vec_of k) ∷ whole ∷ [];
-  gives = λ t. vec k t;
-  kind = a_float;
-  opens = tt;
-  sound = mixed_sound n h k;
-}
+mixed_form n h k =
+    record { slots = inner (vec_of k) ∷ inner (vec_of k) ∷ whole ∷ []; gives = λ t. vec k t; kind = a_float; opens = tt; sound = mixed_sound n h k }
 
 abbrev pub mixes : List Outer → Option (Form mix)
 mixes (layer (vec_of n) ∷ layer (vec_of m) ∷ plain ∷ []) = Some (mixed_form mix tt n)
@@ -319,35 +216,20 @@ refracts (layer (vec_of n) ∷ layer (vec_of m) ∷ plain ∷ []) = Some (mixed_
 refracts os = None
 
 abbrev pub insert_form : Form insert_bits
-insert_form = record {
-  slots = whole ∷ whole ∷ fixed (scalar U32) ∷ fixed (scalar U32) ∷ [];
-  gives = concretized;
-  kind = or_vector a_number;
-  opens = tt;
-  sound = λ c a. inserted c (is_number c a);
-}
+insert_form =
+    record { slots = whole ∷ whole ∷ fixed (scalar U32) ∷ fixed (scalar U32) ∷ []; gives = concretized; kind = or_vector a_number; opens = tt; sound = λ c a. inserted c (is_number c a) }
 
 abbrev pub either_form : Form select
-either_form = record {
-  slots = whole ∷ whole ∷ fixed (scalar Bool) ∷ [];
-  gives = λ t. t;
-  kind = scalar_or_vector;
-  opens = tt;
-  sound = either;
-}
+either_form =
+    record { slots = whole ∷ whole ∷ fixed (scalar Bool) ∷ []; gives = λ t. t; kind = scalar_or_vector; opens = tt; sound = either }
 
 pub each_sound : (k : ℕ) (c : WgslType) → Admits (vector_of any_type) c → IsCandidate select (c ∷ c ∷ vec k (scalar Bool) ∷ []) c
 each_sound k (within (vec_of n) t) h = each_either n k t
 each_sound k t h = absurd h
 
 abbrev pub each_form : ℕ → Form select
-each_form k = record {
-  slots = whole ∷ whole ∷ fixed (vec k (scalar Bool)) ∷ [];
-  gives = λ t. t;
-  kind = vector_of any_type;
-  opens = tt;
-  sound = each_sound k;
-}
+each_form k =
+    record { slots = whole ∷ whole ∷ fixed (vec k (scalar Bool)) ∷ []; gives = λ t. t; kind = vector_of any_type; opens = tt; sound = each_sound k }
 
 abbrev pub selects : List Outer → Option (Form select)
 selects (o ∷ p ∷ layer (vec_of k) ∷ []) = Some (each_form k)

@@ -3,7 +3,7 @@ use Rattle.std.proofs.Common.{◌≡◌, Some, Result, Ok, Err, refl, sym, ap, s
 use Rattle.wgsl_rules.proofs.Common.{Bool, BinaryOperator, AddressOf, Indirection, vec_of, mat_of, WgslType, scalar, within, pointer, reference, vec, mat, IsCommon, Refusal, IsOperatorAnswer, IsUnaryAnswer}
 use Rattle.wgsl_syntax.specs.declared.operator.UnaryOperator.{UnaryOperator}
 use Rattle.wgsl_rules.specs.operators.Rows.{IsRow, scalar_row, vector_row, scalar_vector_row, vector_scalar_row, matrix_row, scalar_matrix_row, matrix_scalar_row, vector_matrix_row, matrix_vector_row, matrix_matrix_row, comparison_row, comparison_vector_row, logical_row, bools_row, bit_row, shift_row, shift_vector_row}
-use Rattle.wgsl_rules.specs.operators.UnaryRows.{IsUnaryRow, not_row, not_vector_row, negation_row, complement_row, address_row, indirection_row}
+use Rattle.wgsl_rules.specs.operators.UnaryRows.{IsUnaryRow, not_row}
 use Rattle.wgsl_rules.proofs.conversion.Commons.{common_once}
 use Rattle.wgsl_rules.proofs.operators.Groups.{Group, logicals, arithmetics, comparisons, bits, shifts, group, logicals_group, arithmetics_group, comparisons_group, bits_group, or_and_group, shifts_group, sums_group, elements}
 
@@ -80,11 +80,7 @@ unary_result o t = t
 
 unary_row_returns : {o : UnaryOperator} {t u : WgslType} → IsUnaryRow o t u → u ≡ unary_result o t
 unary_row_returns not_row = refl
-unary_row_returns (not_vector_row n t) = refl
-unary_row_returns (negation_row s) = refl
-unary_row_returns (complement_row t i) = refl
-unary_row_returns (address_row s t m h) = refl
-unary_row_returns (indirection_row s t m) = refl
+unary_row_returns _ = refl
 
 pub unary_answer_once : (o : UnaryOperator) (t : WgslType) (r s : Result WgslType Refusal) → IsUnaryAnswer o t r → IsUnaryAnswer o t s → r ≡ s
 unary_answer_once o t (Ok u) (Ok v) h k = ap Ok (unary_row_returns h ∙ sym (unary_row_returns k))

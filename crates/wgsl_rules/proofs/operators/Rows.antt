@@ -1,7 +1,7 @@
 -- The rows of a binary operator by the kind of its operands, and what they return for value types.
 use Rattle.std.proofs.Common.{◌≡◌, ℕ, ◌⊎◌, [], ◌∷◌, Some, None, sym, subst, inl, inr}
 use Rattle.wgsl_rules.proofs.Common.{Bool, BinaryOperator, WgslType, scalar, vec, IsIntegerOrVector, IsScalar, IsVector, IsLeaf, IsValueType, IsCommon, operator, IsArithmetic, IsComparison, IsLogical, IsBitwise, IsOrAnd, IsShift, IsLeastCandidate, IsChosenAnswer, BinaryCandidate, HasCandidate}
-use Rattle.wgsl_rules.specs.operators.Rows.{IsRow, scalar_row, vector_row, scalar_vector_row, vector_scalar_row, matrix_row, scalar_matrix_row, matrix_scalar_row, vector_matrix_row, matrix_vector_row, matrix_matrix_row, comparison_row, comparison_vector_row, logical_row, bools_row, bit_row, shift_row, shift_vector_row}
+use Rattle.wgsl_rules.specs.operators.Rows.{IsRow, scalar_row, scalar_vector_row, scalar_matrix_row, comparison_row, comparison_vector_row, logical_row, bools_row, bit_row, shift_row}
 use Rattle.wgsl_rules.proofs.conversion.Commons.{common_once}
 use Rattle.wgsl_rules.proofs.operators.Groups.{elements, Fits, IsShifted, arithmetic_needs, comparison_needs, logical_needs, bits_needs, shift_needs}
 use Rattle.wgsl_rules.proofs.operators.Choices.{chosen_answer, refused_answer}
@@ -67,19 +67,12 @@ common_leaf a b x y k = absurd x
 
 pub scalars_are_leaves : {o : BinaryOperator} {a b l r t : WgslType} → IsRow o a b l r t → IsScalar a → IsScalar b → IsLeaf l × IsLeaf r × IsLeaf t
 scalars_are_leaves (scalar_row o h s t c k) x y = let f = common_leaf (scalar s) (scalar t) x y k in (f, f, f)
-scalars_are_leaves (vector_row o h n m e f c k) x y = absurd x
 scalars_are_leaves (scalar_vector_row o h s n e c k) x y = absurd y
-scalars_are_leaves (vector_scalar_row o h n e s c k) x y = absurd x
-scalars_are_leaves (matrix_row o h c r e f d k) x y = absurd x
 scalars_are_leaves (scalar_matrix_row s c r e d k) x y = absurd y
-scalars_are_leaves (matrix_scalar_row c r e s d k) x y = absurd x
-scalars_are_leaves (vector_matrix_row c r e f d k) x y = absurd x
-scalars_are_leaves (matrix_vector_row c r e f d k) x y = absurd x
-scalars_are_leaves (matrix_matrix_row k c r e f d m) x y = absurd x
 scalars_are_leaves (comparison_row o h a b s k) x y = (tt, tt, tt)
 scalars_are_leaves (comparison_vector_row o h a b n e k) x y = absurd (common_leaf a b x y k)
 scalars_are_leaves (logical_row o h) x y = (tt, tt, tt)
 scalars_are_leaves (bools_row o h n a b k) x y = absurd (common_leaf a b x y k)
 scalars_are_leaves (bit_row o h a b c k i) x y = let f = common_leaf a b x y k in (f, f, f)
 scalars_are_leaves (shift_row o h i k t m) x y = (tt, tt, tt)
-scalars_are_leaves (shift_vector_row o h n i k t m) x y = absurd x
+scalars_are_leaves _ x y = absurd x
