@@ -1,9 +1,7 @@
 pub mod Answers
 pub mod Conversions
-pub mod Arithmetic
-pub mod Shifts
+pub mod Values
 pub mod Functions
 pub mod Calls
 pub mod Vectors
 pub mod Literals
-pub mod Values

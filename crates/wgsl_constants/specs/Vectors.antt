@@ -17,7 +17,7 @@ use Rattle.wgsl_constants.specs.declared.vector.Size.TheVariants as size
 use Rattle.wgsl_constants.specs.declared.vector.Vector.{Vector}
 use Rattle.wgsl_constants.specs.declared.vector.Vector.TheVariants as v
 use Rattle.wgsl_constants.specs.Answers.{map_ok, then_ok}
-use Rattle.wgsl_constants.specs.Literals.{then}
+use Rattle.wgsl_constants.specs.Literals.{found, then}
 use Rattle.wgsl_constants.specs.Values.{value}
 use Rattle.wgsl_constants.specs.declared.integer.IntegerOperator.TheVariants.{Addition, Multiplication}
 use Rattle.wgsl_constants.specs.Calls.{integer, of_integers}
@@ -96,11 +96,11 @@ component Fourth (v.Four x y z w) = Some w
 component other few = None
 
 abbrev pub and_product : Integer → Integer → Integer → Option Integer
-and_product sum a x = then (value Multiplication a x) (value Addition sum)
+and_product sum a x = then (found (value Multiplication a x)) (λ p. found (value Addition sum p))
 
 -- `dot(vec2(1, 2), vec2(3, 4))` is 11
 abbrev pub dot_two : Integer → Integer → Integer → Integer → Option Integer
-dot_two a b x y = then (value Multiplication a x) (λ s. and_product s b y)
+dot_two a b x y = then (found (value Multiplication a x)) (λ s. and_product s b y)
 
 abbrev pub dot : Vector → Vector → Option Integer
 dot (v.Two a b) (v.Two x y) = dot_two a b x y

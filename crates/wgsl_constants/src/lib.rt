@@ -5,7 +5,6 @@ pub mod call;
 pub mod constant;
 pub mod function;
 pub mod integer;
-pub mod laws;
 pub mod literal;
 pub mod operator;
 pub mod vector;

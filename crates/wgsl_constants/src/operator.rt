@@ -1,11 +1,10 @@
 // Operators on integers (WGSL, "Arithmetic Expressions", "Bit Expressions").
 
-ghost use Rattle.std.specs.Prelude.{◌≡◌, ◌<◌, ◌^◌, pos};
+ghost use Rattle.std.specs.Prelude.{◌≡◌, ◌<◌, ◌*◌, ◌*ℤ◌, ◌^◌, pos};
 ghost use Rattle.std.specs.Int.{int_shr};
 ghost use Rattle.wgsl_constants.specs.Conversions.{count_of, i32_of, pair, u32_of};
-ghost use Rattle.wgsl_constants.specs.Arithmetic.{IsAbstractValue, IsI32Value, IsU32Value, IsValue};
 ghost use Rattle.wgsl_constants.specs.Functions.{comparison, of_pair};
-ghost use Rattle.wgsl_constants.specs.Shifts.{IsAbstractShift, IsI32Shift, IsLeftShift, IsNegative, IsRightShift, IsU32Shift, complement_of};
+ghost use Rattle.wgsl_constants.specs.Values.{abstract_shift, abstract_value, complement_of, i32_value, left_shift, near, negative, right_shift, u32_value, value};
 
 use crate::integer::{Integer, IntegerError, IntegerOperator, IntegerPair};
 use std::cmp::Ordering;
@@ -54,7 +53,7 @@ pub fn apply(
     left: Integer,
     right: Integer,
 ) -> Result<Integer, IntegerError>
-    ensures { IsValue operator left right result }
+    ensures { result ≡ value operator left right }
 {
     match pair_of(left, right)? {
         IntegerPair::Abstract(a, b) => Ok(Integer::Abstract(apply_abstract(operator, a, b)?)),
@@ -63,78 +62,47 @@ pub fn apply(
     }
 }
 
+#[tactic(auto, using(crate::proofs::Values::fitted, crate::proofs::Values::no_quotient, crate::proofs::Values::quotient_64))]
 fn apply_abstract(operator: IntegerOperator, a: i64, b: i64) -> Result<i64, IntegerError>
-    ensures { IsAbstractValue operator a b result }
+    ensures { result ≡ abstract_value operator a b }
 {
     match operator {
         IntegerOperator::Addition => a.checked_add(b).ok_or(IntegerError::Overflow),
         IntegerOperator::Subtraction => a.checked_sub(b).ok_or(IntegerError::Overflow),
         IntegerOperator::Multiplication => a.checked_mul(b).ok_or(IntegerError::Overflow),
-        IntegerOperator::Division => divide_abstract(a, b),
-        IntegerOperator::Remainder => remainder_abstract(a, b),
+        IntegerOperator::Division | IntegerOperator::Remainder if b == 0 => {
+            Err(IntegerError::DivisionByZero)
+        }
+        IntegerOperator::Division => a.checked_div(b).ok_or(IntegerError::Overflow),
+        IntegerOperator::Remainder => a.checked_rem(b).ok_or(IntegerError::Overflow),
         IntegerOperator::BitwiseOr => Ok(a | b),
         IntegerOperator::BitwiseAnd => Ok(a & b),
         IntegerOperator::BitwiseXor => Ok(a ^ b),
     }
 }
 
-fn divide_abstract(a: i64, b: i64) -> Result<i64, IntegerError>
-    ensures { IsAbstractValue IntegerOperator.Division a b result }
-{
-    if b == 0 {
-        Err(IntegerError::DivisionByZero)
-    } else {
-        a.checked_div(b).ok_or(IntegerError::Overflow)
-    }
-}
-
-fn remainder_abstract(a: i64, b: i64) -> Result<i64, IntegerError>
-    ensures { IsAbstractValue IntegerOperator.Remainder a b result }
-{
-    if b == 0 {
-        Err(IntegerError::DivisionByZero)
-    } else {
-        a.checked_rem(b).ok_or(IntegerError::Overflow)
-    }
-}
-
+#[tactic(auto, using(std::proofs::lemmas::Int::wrapping_add_is, std::proofs::lemmas::Int::wrapping_sub_is, crate::proofs::Values::no_quotient, crate::proofs::Values::quotient_32))]
 fn apply_i32(operator: IntegerOperator, a: i32, b: i32) -> Result<i32, IntegerError>
-    ensures { IsI32Value operator a b result }
+    ensures { result ≡ i32_value operator a b }
 {
     match operator {
         IntegerOperator::Addition => Ok(a.wrapping_add(b)),
         IntegerOperator::Subtraction => Ok(a.wrapping_sub(b)),
         IntegerOperator::Multiplication => Ok(a.wrapping_mul(b)),
-        IntegerOperator::Division => divide_i32(a, b),
-        IntegerOperator::Remainder => remainder_i32(a, b),
+        IntegerOperator::Division | IntegerOperator::Remainder if b == 0 => {
+            Err(IntegerError::DivisionByZero)
+        }
+        IntegerOperator::Division => a.checked_div(b).ok_or(IntegerError::Overflow),
+        IntegerOperator::Remainder => a.checked_rem(b).ok_or(IntegerError::Overflow),
         IntegerOperator::BitwiseOr => Ok(a | b),
         IntegerOperator::BitwiseAnd => Ok(a & b),
         IntegerOperator::BitwiseXor => Ok(a ^ b),
     }
 }
 
-fn divide_i32(a: i32, b: i32) -> Result<i32, IntegerError>
-    ensures { IsI32Value IntegerOperator.Division a b result }
-{
-    if b == 0 {
-        Err(IntegerError::DivisionByZero)
-    } else {
-        a.checked_div(b).ok_or(IntegerError::Overflow)
-    }
-}
-
-fn remainder_i32(a: i32, b: i32) -> Result<i32, IntegerError>
-    ensures { IsI32Value IntegerOperator.Remainder a b result }
-{
-    if b == 0 {
-        Err(IntegerError::DivisionByZero)
-    } else {
-        a.checked_rem(b).ok_or(IntegerError::Overflow)
-    }
-}
-
+#[tactic(auto, using(crate::proofs::Values::quotient))]
 fn apply_u32(operator: IntegerOperator, a: u32, b: u32) -> Result<u32, IntegerError>
-    ensures { IsU32Value operator a b result }
+    ensures { result ≡ u32_value operator a b }
 {
     match operator {
         IntegerOperator::Addition => Ok(a.wrapping_add(b)),
@@ -161,7 +129,7 @@ pub fn count_of(right: Integer) -> Result<u32, IntegerError>
 
 /// The value of `<<`, which is an error if it loses bits.
 pub fn shift_left(left: Integer, right: Integer) -> Result<Integer, IntegerError>
-    ensures { IsLeftShift left right result }
+    ensures { result ≡ left_shift left right }
 {
     let count = count_of(right)?;
     match left {
@@ -188,8 +156,9 @@ fn power_of_two(exponent: u32) -> i64
     1i64 << exponent
 }
 
+#[tactic(auto, using(crate::proofs::Values::fitted))]
 fn shift_abstract(value: i64, count: u32) -> Result<i64, IntegerError>
-    ensures { IsAbstractShift value count result }
+    ensures { result ≡ abstract_shift value count }
 {
     if value == 0 {
         Ok(0)
@@ -205,7 +174,7 @@ fn shift_abstract(value: i64, count: u32) -> Result<i64, IntegerError>
 }
 
 fn shift_i32(value: i32, count: u32) -> Result<i32, IntegerError>
-    ensures { IsI32Shift value count result }
+    ensures { result ≡ near count (i32_of (value *ℤ pos (2 ^ count))) }
 {
     if count < 32 {
         to_i32(i64::from(value) * power_of_two(count))
@@ -215,7 +184,7 @@ fn shift_i32(value: i32, count: u32) -> Result<i32, IntegerError>
 }
 
 fn shift_u32(value: u32, count: u32) -> Result<u32, IntegerError>
-    ensures { IsU32Shift value count result }
+    ensures { result ≡ near count (u32_of (pos (value * 2 ^ count))) }
 {
     if count < 32 {
         to_u32(i64::from(value) * power_of_two(count))
@@ -226,7 +195,7 @@ fn shift_u32(value: u32, count: u32) -> Result<u32, IntegerError>
 
 /// The value of `>>`.
 pub fn shift_right(left: Integer, right: Integer) -> Result<Integer, IntegerError>
-    ensures { IsRightShift left right result }
+    ensures { result ≡ right_shift left right }
 {
     let count = count_of(right)?;
     match left {
@@ -251,7 +220,7 @@ fn shift_down(value: i64, count: u32) -> i64
 
 /// The value of `-`. For the least AbstractInt or `i32` it is that number.
 pub fn negative(integer: Integer) -> Result<Integer, IntegerError>
-    ensures { IsNegative integer result }
+    ensures { result ≡ negative integer }
 {
     match integer {
         Integer::Abstract(value) => Ok(Integer::Abstract(value.wrapping_neg())),

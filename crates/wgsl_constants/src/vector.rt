@@ -145,15 +145,13 @@ impl Vector {
     }
 }
 
-#[tactic(auto, using(crate::proofs::Values::value_is))]
 fn product(a: Integer, b: Integer) -> Result<Integer, CallError>
-    ensures { found result ≡ value Multiplication a b }
+    ensures { found result ≡ found (value Multiplication a b) }
 {
     Ok(apply(IntegerOperator::Multiplication, a, b)?)
 }
 
 /// The sum with the product of two integers.
-#[tactic(auto, using(crate::proofs::Values::value_is))]
 fn and_product(sum: Integer, a: Integer, b: Integer) -> Result<Integer, CallError>
     ensures { found result ≡ and_product sum a b }
 {

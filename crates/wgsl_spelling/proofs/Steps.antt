@@ -1,6 +1,6 @@
 -- What operators take from the items.
 use Rattle.std.proofs.Common.{◌≡◌, ◌∷◌, Some, sym, ap, ◌∙◌}
-use Rattle.wgsl_spelling.proofs.Common.{then, value, Kind, State, state, with_binary, with_item, with_unary, Item}
+use Rattle.wgsl_spelling.proofs.Common.{found, then, value, Kind, State, state, with_binary, with_item, with_unary, Item}
 use Rattle.wgsl_constants.specs.declared.integer.Integer.{Integer}
 use Rattle.wgsl_constants.specs.declared.integer.IntegerOperator.{IntegerOperator}
 use Rattle.wgsl_reader.specs.declared.kind.Kind.TheVariants as k
@@ -15,7 +15,7 @@ pub binary_step : (s s1 s2 s3 : State) (right operator left i : Item) → s.item
 binary_step s s1 s2 s3 right operator left i a p b q d r u = rw (a, b, d, u) (ap (λ c. Some (state (i ∷ s3.items) c)) (sym (r ∙ q ∙ p)))
 
 -- an operator other than a shift
-pub by_operator : (kind : Kind) (a b : Integer) (op : IntegerOperator) → operator_of kind ≡ Some op → sign_value kind a b ≡ value op a b
+pub by_operator : (kind : Kind) (a b : Integer) (op : IntegerOperator) → operator_of kind ≡ Some op → sign_value kind a b ≡ found (value op a b)
 by_operator k.ShiftLeft a b op is = cc
 by_operator k.ShiftRight a b op is = cc
-by_operator _ a b op is = ap (λ o. then o (λ op. value op a b)) is
+by_operator _ a b op is = ap (λ o. then o (λ op. found (value op a b))) is

@@ -7,8 +7,7 @@ use Rattle.wgsl_reader.specs.declared.kind.Kind.{Kind}
 use Rattle.wgsl_reader.specs.declared.kind.Kind.TheVariants as k
 use Rattle.wgsl_constants.specs.Functions.{comparison, of_pair}
 use Rattle.wgsl_constants.specs.Literals.{found, integer_of, then, type_of_number}
-use Rattle.wgsl_constants.specs.Values.{left_shift, map_value, negative, right_shift, value}
-use Rattle.wgsl_constants.specs.Shifts.{complement_of}
+use Rattle.wgsl_constants.specs.Values.{complement_of, left_shift, map_value, negative, right_shift, value}
 use Rattle.wgsl_constants.specs.declared.constant.Constant.{Constant}
 use Rattle.wgsl_constants.specs.declared.constant.Constant.TheVariants as c
 use Rattle.wgsl_constants.specs.declared.integer.Integer.{Integer}
@@ -69,7 +68,7 @@ sign_in other = k.End
 
 -- `-4`, `~4`, `!true`
 abbrev pub unary_value : Kind → Constant → Option Constant
-unary_value k.Minus (c.Integer a) = map_value c.Integer (negative a)
+unary_value k.Minus (c.Integer a) = map_value c.Integer (found (negative a))
 unary_value k.Minus (c.Float a) = Some (c.Float (saturate_signed w64 (pos 0 -ℤ a)))
 unary_value k.Tilde (c.Integer a) = Some (c.Integer (complement_of a))
 unary_value k.Bang (c.Bool b) = Some (c.Bool (not b))
@@ -88,9 +87,9 @@ operator_of other = None
 
 -- `2 + 2`, `1 << 2`
 abbrev pub sign_value : Kind → Integer → Integer → Option Integer
-sign_value k.ShiftLeft a b = left_shift a b
-sign_value k.ShiftRight a b = right_shift a b
-sign_value kind a b = then (operator_of kind) (λ op. value op a b)
+sign_value k.ShiftLeft a b = found (left_shift a b)
+sign_value k.ShiftRight a b = found (right_shift a b)
+sign_value kind a b = then (operator_of kind) (λ op. found (value op a b))
 
 abbrev pub comparison_of : Kind → Option Comparison
 comparison_of k.EqualEqual = Some test.Equal

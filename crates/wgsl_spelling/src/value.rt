@@ -159,9 +159,8 @@ pub fn unary_value(sign: Kind, operand: Constant) -> Result<Constant, CallError>
     }
 }
 
-#[tactic(auto, using(wgsl_constants::proofs::Values::negative_is))]
 fn negated(a: Integer) -> Result<Integer, CallError>
-    ensures { found result ≡ negative a }
+    ensures { found result ≡ found (negative a) }
 {
     Ok(negative(a)?)
 }
@@ -248,7 +247,6 @@ fn of_bools(kind: Kind, a: bool, b: bool) -> Option<bool>
     }
 }
 
-#[tactic(auto, using(wgsl_constants::proofs::Values::left_shift_is, wgsl_constants::proofs::Values::right_shift_is))]
 fn sign_value(kind: Kind, a: Integer, b: Integer) -> Result<Integer, CallError>
     ensures { found result ≡ sign_value kind a b }
 {
@@ -262,9 +260,8 @@ fn sign_value(kind: Kind, a: Integer, b: Integer) -> Result<Integer, CallError>
     }
 }
 
-#[tactic(auto, using(wgsl_constants::proofs::Values::value_is))]
 fn applied(operator: IntegerOperator, a: Integer, b: Integer) -> Result<Integer, CallError>
-    ensures { found result ≡ value operator a b }
+    ensures { found result ≡ found (value operator a b) }
 {
     Ok(apply(operator, a, b)?)
 }

@@ -1,4 +1,4 @@
-use Rattle.std.proofs.Common.{inr, ◌≡◌, ◌∙◌, ◌^◌, ℤ, pos, ◌*ℤ◌, to_z, of_z, w32, w64, FitsSigned, ap}
+use Rattle.std.proofs.Common.{◌≡◌, ◌∙◌, ◌^◌, ℤ, pos, ◌*ℤ◌, to_z, of_z, w32, w64, FitsSigned, ap, lt-ltb}
 use Rattle.std.proofs.lemmas.Int.{to_z-of_z}
 use Rattle.wgsl_constants.specs.Conversions.{i32_of}
 use Rattle.wgsl_constants.proofs.Shifted.{fits}
@@ -21,4 +21,4 @@ returns-then-count-lt32 c =
     let product = c.args.value *ℤ pos (2 ^ c.args.count) in
     let whole : to_z w64 (of_z w64 (to_z w64 (of_z w64 c.from.result) *ℤ to_z w64 (of_z w64 c.power_of_two.result))) ≡ product =
     rw (a, p) (to_z-of_z w64 product (fits c.args.value c.args.count c.ranges.value c.if-count-lt32.true)) in
-    inr (c.if-count-lt32.true, c.to_i32.ensures ∙ ap i32_of whole)
+    rw (lt-ltb c.args.count 32 c.if-count-lt32.true) (c.to_i32.ensures ∙ ap i32_of whole)
