@@ -1,7 +1,7 @@
 // The kinds of types that loads and declarations distinguish.
 ghost use Rattle.std.specs.Prelude.{◌≡◌};
-ghost use Rattle.wgsl_forms.specs.Prelude.{view, member_view, members_view, given_type};
-ghost use Rattle.wgsl_forms.specs.Kinds.{has_fixed_footprint as fixed_there, have_fixed_footprint as all_fixed_there, is_constructible as constructible, is_handle as handle, is_host_shareable as host_shareable, are_host_shareable as all_host_shareable, is_concrete_number as concrete_number, has_no_array as no_array_there, have_no_array as no_arrays_there};
+ghost use Rattle.wgsl_forms.specs.Prelude.{view, members_view, given_type};
+ghost use Rattle.wgsl_forms.specs.Kinds.{has_fixed_footprint as fixed_there, have_fixed_footprint as all_fixed_there, is_constructible as constructible, is_handle as handle, is_host_shareable as host_shareable, are_host_shareable as all_host_shareable, has_no_array as no_array_there, have_no_array as no_arrays_there};
 
 use crate::prelude::*;
 
@@ -11,13 +11,29 @@ use crate::prelude::*;
 pub fn has_fixed_footprint(atomics: bool, ty: &Type) -> bool
     ensures { result ≡ fixed_there atomics (view ty.now) }
 {
-    match ty.form() {
-        Form::Scalar(_) => true,
-        Form::Array(n, t) => n.is_some() && has_fixed_footprint(atomics, t),
-        Form::Vector(_, t) | Form::Matrix(_, _, t) => has_fixed_footprint(atomics, t),
-        Form::Struct(s) => have_fixed_footprint(atomics, &s.members),
-        Form::Atomic(_) => atomics,
-        _ => false,
+    match ty {
+        Type::Bool
+        | Type::AbstractInt
+        | Type::AbstractFloat
+        | Type::I32
+        | Type::U32
+        | Type::F32
+        | Type::F16
+        | Type::I64
+        | Type::U64
+        | Type::F64 => true,
+        Type::Array(t, n) => n.is_some() && has_fixed_footprint(atomics, t),
+        Type::Vec(_, t) => has_fixed_footprint(atomics, t),
+        Type::Mat(_, _, t) => has_fixed_footprint(atomics, t),
+        Type::Struct(s) => have_fixed_footprint(atomics, &s.members),
+        Type::Atomic(_) => atomics,
+        Type::Ptr(_, _, _)
+        | Type::Ref(_, _, _)
+        | Type::Texture(_)
+        | Type::Sampler(_)
+        | Type::BindingArray(_, _)
+        | Type::RayQuery(_)
+        | Type::AccelerationStructure(_) => false,
     }
 }
 
@@ -63,13 +79,23 @@ pub fn operand_is_constructible(ty: OperandType<'_>) -> bool
 pub fn is_host_shareable(ty: &Type) -> bool
     ensures { result ≡ host_shareable (view ty.now) }
 {
-    match ty.form() {
-        Form::Scalar(scalar) => is_concrete_number(scalar),
-        Form::Array(_, t) | Form::Vector(_, t) | Form::Matrix(_, _, t) | Form::Atomic(t) => {
-            is_host_shareable(t)
-        }
-        Form::Struct(s) => are_host_shareable(&s.members),
-        _ => false,
+    match ty {
+        Type::I32 | Type::U32 | Type::F32 | Type::F16 | Type::I64 | Type::U64 | Type::F64 => true,
+        Type::Array(t, _) => is_host_shareable(t),
+        Type::Vec(_, t) => is_host_shareable(t),
+        Type::Mat(_, _, t) => is_host_shareable(t),
+        Type::Atomic(t) => is_host_shareable(t),
+        Type::Struct(s) => are_host_shareable(&s.members),
+        Type::Bool
+        | Type::AbstractInt
+        | Type::AbstractFloat
+        | Type::Ptr(_, _, _)
+        | Type::Ref(_, _, _)
+        | Type::Texture(_)
+        | Type::Sampler(_)
+        | Type::BindingArray(_, _)
+        | Type::RayQuery(_)
+        | Type::AccelerationStructure(_) => false,
     }
 }
 
@@ -85,24 +111,34 @@ fn are_host_shareable(members: &Vec<StructMemberType>) -> bool
     true
 }
 
-fn is_concrete_number(scalar: Scalar) -> bool
-    ensures { result ≡ concrete_number scalar }
-{
-    !matches!(
-        scalar,
-        Scalar::Bool | Scalar::AbstractInt | Scalar::AbstractFloat
-    )
-}
-
 /// Whether the type is no array, and no struct with one inside.
 #[cycle(no_array)]
 pub fn has_no_array(ty: &Type) -> bool
     ensures { result ≡ no_array_there (view ty.now) }
 {
-    match ty.form() {
-        Form::Array(_, _) => false,
-        Form::Struct(s) => have_no_array(&s.members),
-        _ => true,
+    match ty {
+        Type::Array(_, _) => false,
+        Type::Struct(s) => have_no_array(&s.members),
+        Type::Bool
+        | Type::AbstractInt
+        | Type::AbstractFloat
+        | Type::I32
+        | Type::U32
+        | Type::F32
+        | Type::F16
+        | Type::I64
+        | Type::U64
+        | Type::F64
+        | Type::Vec(_, _)
+        | Type::Mat(_, _, _)
+        | Type::Atomic(_)
+        | Type::Ptr(_, _, _)
+        | Type::Ref(_, _, _)
+        | Type::Texture(_)
+        | Type::Sampler(_)
+        | Type::BindingArray(_, _)
+        | Type::RayQuery(_)
+        | Type::AccelerationStructure(_) => true,
     }
 }
 

@@ -20,9 +20,15 @@ fn members_end_in_array(atomics: bool, members: &[StructMemberType]) -> bool
     ensures { result ≡ members_end_there atomics (members_view members.now) }
 {
     match members.split_last() {
-        Some((last, rest)) => have_fixed_footprint(atomics, rest) && may_end(atomics, &last.ty),
+        Some((last, rest)) => have_fixed_footprint(atomics, rest) && member_may_end(atomics, last),
         None => true,
     }
+}
+
+fn member_may_end(atomics: bool, member: &StructMemberType) -> bool
+    ensures { result ≡ may_end_there atomics (member_view member.now).ty }
+{
+    may_end(atomics, &member.ty)
 }
 
 fn may_end(atomics: bool, ty: &Type) -> bool

@@ -5,10 +5,10 @@ use Rattle.wgsl_forms.proofs.variable.members_end_in_array.Goals as goal
 
 pub returns-then-have_fixed_footprint : goal.returns-then-have_fixed_footprint
 returns-then-have_fixed_footprint c =
-    let e = c.may_end.result in
+    let e = c.member_may_end.result in
     subst (λ h. (h && e) ≡ may_end_members c.args.atomics (members_view c.args.members.now)) c.if-have_fixed_footprint.true
     (last_ends c.args.atomics c.args.members.now c.in-Some.rest.now c.in-Some.last.now c.have_fixed_footprint.result e
-    c.in-Some.ensures.cases.0 c.have_fixed_footprint.ensures c.may_end.ensures)
+    c.in-Some.ensures.cases.0 c.have_fixed_footprint.ensures c.member_may_end.ensures)
 
 pub returns-else-have_fixed_footprint : goal.returns-else-have_fixed_footprint
 returns-else-have_fixed_footprint c =
