@@ -1,5 +1,5 @@
 -- Assignments and array constructors have exactly one answer.
-use Rattle.std.proofs.Common.{◌≡◌, ℕ, List, [], ◌∷◌, Option, Some, None, Result, Ok, Err, length, map, refl, ap, ◌∙◌}
+use Rattle.std.proofs.Common.{◌≡◌, List, [], ◌∷◌, Some, None, Result, Ok, Err, length, map, refl, ap, ◌∙◌}
 use Rattle.wgsl_forms.proofs.Common.{AccessMode, BinaryOperator, WgslType, reference, IsLeftCommon, IsStandardAnswer, Operand, binary_overloads, an_answer, answer_once, Fits, Refusal}
 use Rattle.wgsl_syntax.specs.declared.address.AccessMode.TheVariants.{ReadWrite}
 use Rattle.wgsl_rules.proofs.conversion.Commons.{left_common_once, some_left_common}

@@ -1,6 +1,6 @@
 // Assignments, increments and decrements.
 ghost use Rattle.std.specs.Prelude.{◌≡◌, ◌↔◌, [], ◌∷◌, IsTrue, Some, option_map};
-ghost use Rattle.wgsl_forms.specs.Prelude.{result_unwrap_or, ReadWrite, scalar as scalar_type, within, IsStandardAnswer, binary_overloads as binary_there};
+ghost use Rattle.wgsl_forms.specs.Prelude.{result_unwrap_or, ReadWrite, IsStandardAnswer, binary_overloads as binary_there};
 ghost use Rattle.wgsl_forms.specs.Prelude.{type_with, type_eq, view, given_type, operand_view};
 ghost use Rattle.wgsl_forms.specs.Assign.{IsAssigned, IsAssignedBy, IsCompound, assigned, assigned_to, compound as compound_there, incremented, incremented_in, operator_of};
 ghost use Rattle.wgsl_forms.specs.Load.{loaded};

@@ -1,6 +1,6 @@
 // The load of a reference.
 ghost use Rattle.std.specs.Prelude.{◌≡◌};
-ghost use Rattle.wgsl_forms.specs.Prelude.{view, given_type};
+ghost use Rattle.wgsl_forms.specs.Prelude.{given_type};
 ghost use Rattle.wgsl_forms.specs.Load.{is_loadable as loadable, load_answer, loaded, stored_loaded};
 ghost use Rattle.wgsl_forms.specs.Views.{answer_view, given};
 ghost use Rattle.wgsl_forms.specs.internal.References.{loaded_in};

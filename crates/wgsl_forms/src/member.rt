@@ -1,7 +1,6 @@
 // Members of structs and components of vectors.
-ghost use Rattle.std.specs.Prelude.{◌≡◌, nat_eq, not, take, option_map};
-ghost use Rattle.wgsl_forms.specs.Prelude.{list_any, struct, vec, view, struct_view, members_view, given_type};
-ghost use Rattle.wgsl_forms.specs.Load.{loaded};
+ghost use Rattle.std.specs.Prelude.{◌≡◌, nat_eq, take, option_map};
+ghost use Rattle.wgsl_forms.specs.Prelude.{list_any, struct, vec, view, members_view, given_type};
 ghost use Rattle.wgsl_forms.specs.Member.{are_among as all_among, are_components as all_components, are_distinct as all_distinct, are_several, is_swizzle as swizzle, member_answer, member_named as named_there, part_named as part_there, part_of_letters as letters_name};
 ghost use Rattle.wgsl_forms.specs.Views.{answer_view, element_view, form_view, given};
 ghost use Rattle.wgsl_forms.specs.internal.Letters.{letters_of};

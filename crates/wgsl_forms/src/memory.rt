@@ -1,6 +1,6 @@
 // The types to which references and pointers refer.
 ghost use Rattle.std.specs.Prelude.{◌≡◌};
-ghost use Rattle.wgsl_forms.specs.Prelude.{view, given_type};
+ghost use Rattle.wgsl_forms.specs.Prelude.{given_type};
 ghost use Rattle.wgsl_forms.specs.Memory.{behind as lies_behind, memory_of};
 ghost use Rattle.wgsl_forms.specs.internal.References.{reference_to as reference_there};
 

@@ -2,7 +2,7 @@
 ghost use Rattle.std.specs.Prelude.{◌≡◌, ◌∷◌, Ok, map};
 ghost use Rattle.wgsl_forms.specs.Prelude.{scalar as scalar_type, given_type};
 ghost use Rattle.wgsl_forms.specs.Load.{loaded};
-ghost use Rattle.wgsl_forms.specs.Switch.{agrees as agrees_there, all_agree as all_agree_there, are_constant as constant_there, are_integers as integers_there, concrete_integer as concrete_there, first_concrete as first_there, integer_loaded, is_integer_value, other_integer as other_there, switch_type as switch_there, switched};
+ghost use Rattle.wgsl_forms.specs.Switch.{agrees as agrees_there, all_agree as all_agree_there, are_constant as constant_there, are_integers as integers_there, concrete_integer as concrete_there, first_concrete as first_there, is_integer_value, other_integer as other_there, switch_type as switch_there, switched};
 ghost use Rattle.wgsl_forms.specs.Views.{answer_view, given, unbuilt_view};
 
 use crate::index::is_index;
