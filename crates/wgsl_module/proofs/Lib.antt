@@ -2,3 +2,4 @@ mod Allowed
 mod Faulty
 mod Kept
 mod Runs
+mod Written
