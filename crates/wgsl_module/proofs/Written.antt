@@ -113,7 +113,10 @@ read_one events ds from (Some begin) i d inside is found =
 
 -- Bodies
 
+without_body : (ds : List Declaration) (x : Declaration) → x.kind ≡ kinds.Misread → bodies_of (map written (ds ++ x ∷ [])) ≡ bodies_of (map written ds)
+without_body [] x is = ap (λ k. body_by k x.body.now ++ []) is
+without_body (d ∷ ds) x is = ap (λ bs. body_by d.kind d.body.now ++ bs) (without_body ds x is)
+
 -- what isn't read has no body
-pub misread_pushed : (ds : List Declaration) (x : Declaration) → x.kind ≡ kinds.Misread → bodies_of (map written (ds ++ x ∷ [])) ≡ bodies_of (map written ds)
-misread_pushed [] x is = ap (λ k. body_by k x.body.now ++ []) is
-misread_pushed (d ∷ ds) x is = ap (λ bs. body_by d.kind d.body.now ++ bs) (misread_pushed ds x is)
+pub misread_pushed : (all ds : List Declaration) (x : Declaration) → all ≡ ds ++ x ∷ [] → x.kind ≡ kinds.Misread → bodies_of (map written all) ≡ bodies_of (map written ds)
+misread_pushed all ds x pushed is = ap (λ ds. bodies_of (map written ds)) pushed ∙ without_body ds x is
