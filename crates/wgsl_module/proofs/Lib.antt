@@ -2,3 +2,5 @@ mod Allowed
 mod Faulty
 mod Kept
 mod Runs
+mod Source
+mod Written

@@ -1,18 +1,26 @@
 -- Events and bodies one behind the other.
-use Rattle.std.proofs.Common.{◌≡◌, ◌∙◌, ◌+◌, ℕ, zero, suc, List, [], ◌∷◌, ◌<◌, arith, drop, get_or, length, slice_get, subst}
+use Rattle.std.proofs.Common.{◌≡◌, ◌∙◌, ◌+◌, ℕ, zero, suc, List, [], ◌∷◌, ◌++◌, ◌<◌, arith, drop, get_or, length, map, slice_get, subst}
 use Rattle.wgsl_module.specs.Noted.{Comes, Does, Reading, State}
-use Rattle.wgsl_module.specs.Runs.{AreBodies, IsBodyOf}
+use Rattle.wgsl_module.specs.Declarations.{bodies_of, body_by, written}
+use Rattle.wgsl_module.specs.Runs.{AreBodies, AreRuns, IsBody, IsBodyOf}
 use Rattle.wgsl_module.specs.declared.declaration.Declaration.{Declaration}
+use Rattle.wgsl_module.specs.declared.declaration.DeclarationKind.{DeclarationKind}
+use Rattle.wgsl_module.specs.declared.declaration.DeclarationKind.TheVariants as kinds
 use Rattle.wgsl_reader.specs.declared.kind.Kind.{Kind}
 use Rattle.wgsl_reader.specs.declared.read.Event.{Event}
 use Rattle.wgsl_reader.specs.declared.token.Token.{Token}
 use Rattle.wgsl_typing.specs.Words.{kind_at}
 
+run_of : (tokens : List Token) (kind : DeclarationKind) (body : List Event) (rest : List (List Event)) (s m r : Reading) → IsBody tokens kind body s m
+    → AreRuns tokens rest m r → AreRuns tokens (body_by kind body ++ rest) s r
+run_of tokens kinds.Function body rest s m r run runs = (m, run, runs)
+run_of tokens other body rest s m r same runs = subst (λ k. AreRuns tokens rest k r) same runs
+
 body_and_rest : (tokens : List Token) (ds : List Declaration) (index : ℕ) (s m r : Reading) → IsBodyOf tokens (slice_get ds index) s m
     → AreBodies tokens (drop (suc index) ds) m r → AreBodies tokens (drop index ds) s r
 body_and_rest tokens [] zero s m r body rest = rest ∙ body
 body_and_rest tokens [] (suc index) s m r body rest = rest ∙ body
-body_and_rest tokens (d ∷ ds) zero s m r body rest = (m, body, rest)
+body_and_rest tokens (d ∷ ds) zero s m r body rest = run_of tokens d.kind d.body.now (bodies_of (map written ds)) s m r body rest
 body_and_rest tokens (d ∷ ds) (suc index) s m r body rest = body_and_rest tokens ds index s m r body rest
 
 pub next_body : (tokens : List Token) (ds : List Declaration) (index : ℕ) (s m r : Reading) → IsBodyOf tokens (slice_get ds index) s m

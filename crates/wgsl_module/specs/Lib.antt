@@ -1,3 +1,4 @@
+pub mod Arguments
 pub mod Behaviours
 pub mod Checked
 pub mod Control

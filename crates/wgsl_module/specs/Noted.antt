@@ -1,6 +1,7 @@
 -- What the events of statements and declarations take of the expressions in front of them, and which of these are noted
 -- (WGSL, "Statements", "Variable and Value Declarations", "Attributes").
 use Rattle.std.specs.Prelude.{◌≡◌, ℕ, List, [], ◌∷◌, ◌++◌, Bool, true, false, Option, Some, None, map, reverse}
+use Rattle.wgsl_module.specs.Arguments.{AreArguments, is_const}
 use Rattle.wgsl_module.specs.declared.checker.Checker.{Checker}
 use Rattle.wgsl_module.specs.declared.declaration.Declaration.{Declaration}
 use Rattle.wgsl_module.specs.declared.switch.Switch.{Switch}
@@ -12,6 +13,7 @@ use Rattle.wgsl_reader.specs.declared.read.Event.{Event}
 use Rattle.wgsl_reader.specs.declared.token.Token.{Token}
 use Rattle.wgsl_typing.specs.Stacks.{IsOnTop, IsOperand, Stack, below, below_declared, below_initializer, below_operand, below_space, initializer_on, stack, with_parts}
 use Rattle.wgsl_typing.specs.Steps.{StepIf, is_of_expressions}
+use Rattle.wgsl_typing.specs.Taken.{below_list, in_list}
 use Rattle.wgsl_typing.specs.Types.{no_type_on}
 use Rattle.wgsl_typing.specs.Words.{kind_at}
 use Rattle.wgsl_typing.specs.declared.item.Item.{Item}
@@ -45,6 +47,10 @@ reading s = record { items = s.stack.items; parts = s.stack.parts; switches = s.
 
 abbrev pub Keeps : State → State → Type 0
 Keeps s r = reading r ≡ reading s
+
+-- what is read: the module's text, its tokens and its declarations
+abbrev pub source : State → List ℕ × List Token × List Declaration
+source s = (s.stack.context.text, s.stack.context.tokens, s.declarations)
 
 -- these expressions are noted
 abbrev pub noted : List Part → State → State
@@ -126,12 +132,18 @@ DeclaresField s r = reading r ≡ leaving (below (below_operand s.stack.items)) 
 abbrev pub DeclaresResult : State → State → Type 0
 DeclaresResult s r = reading r ≡ leaving (below_operand s.stack.items) (no_type_on s.stack.items) s
 
--- `@a` in front of its arguments, which stand in a list; of what is noted of them nothing is said here
+-- `@a` in front of its arguments, which stand in a list
 abbrev pub OpensAttribute : ℕ → State → State → Type 0
 OpensAttribute at s r = reading r ≡ standing (items.OpenList ∷ (items.Name at ∷ s.stack.items)) s
 
+-- `@a(x, y)`: each argument is noted. Of which attributes names are no expressions isn't said here.
 abbrev pub HasArguments : State → State → Type 0
-HasArguments s r = r.switches ≡ s.switches
+HasArguments s r = (takes_names : Bool) × (xs : List Part) × AreArguments takes_names s.stack.context (reverse (in_list s.stack.items)) [] xs
+    × (reading r ≡ leaving (below (below_list s.stack.items)) xs s)
+
+abbrev pub AttributeIf : Bool → State → State → Type 0
+AttributeIf true s r = Keeps s r
+AttributeIf false s r = HasArguments s r
 
 -- Events
 
@@ -157,7 +169,7 @@ Statement m.Member at s r = DeclaresField s r
 Statement m.Parameter at s r = DeclaresField s r
 Statement m.Result at s r = DeclaresResult s r
 Statement m.AttributeName at s r = OpensAttribute at s r
-Statement m.Attribute at s r = HasArguments s r
+Statement m.Attribute at s r = AttributeIf (is_const (kind_at s.stack.context.tokens at)) s r
 Statement other at s r = Keeps s r
 
 -- one of expressions, or another
@@ -167,7 +179,7 @@ DoesIf false mark at s r = Statement mark at s r
 
 -- what is done at an event whose last token is of this kind
 abbrev pub Does : Kind → Mark → ℕ → State → State → Type 0
-Does word mark at s r = DoesIf (is_of_expressions word mark) mark at s r × (r.declarations ≡ s.declarations)
+Does word mark at s r = DoesIf (is_of_expressions word mark) mark at s r × (source r ≡ source s)
 
 -- one event behind the other
 abbrev pub Comes : List Token → List Event → State → State → Type 0

@@ -1,6 +1,8 @@
 // Attributes where they stand, and what their arguments say (WGSL, "Attributes"). Only tested.
-ghost use Rattle.std.specs.Prelude.{◌≡◌, IfOk};
-ghost use Rattle.wgsl_module.specs.Noted.{HasArguments, Keeps, OpensAttribute, state};
+ghost use Rattle.std.specs.Prelude.{[], ◌≡◌, IfOk, reverse};
+ghost use Rattle.wgsl_module.specs.Arguments.{AreArguments, IsArgument, is_const, word_of};
+ghost use Rattle.wgsl_module.specs.Noted.{AttributeIf, HasArguments, Keeps, OpensAttribute, source, state};
+ghost use Rattle.wgsl_typing.specs.Words.{kind_at};
 
 use crate::attribute::{Attribute, Attributes, Name, Owner, Row, row_named};
 use crate::checker::Checker;
@@ -170,12 +172,19 @@ impl<'t> Checker<'t> {
 
     /// `@name(x)` is read. A name in brackets that take names stands for no value.
     pub fn close_attribute(&mut self, count: usize) -> Result<(), AllocError>
-        ensures arguments { IfOk result (λ u. HasArguments (state self.old) (state self.new)) }
-        ensures declarations { IfOk result (λ u. (state self.new).declarations ≡ (state self.old).declarations) }
+        ensures arguments { IfOk result (λ u. AttributeIf (is_const (kind_at (state self.old).stack.context.tokens count)) (state self.old) (state self.new)) }
+        ensures source { IfOk result (λ u. source (state self.new) ≡ source (state self.old)) }
     {
-        if self.expressions.token_before(count).kind == Kind::Const {
-            return self.tell_last(Rule::Attribute, count, "@const can't be written");
+        match is_const(self.expressions.token_before(count).kind) {
+            true => self.tell_last(Rule::Attribute, count, "@const can't be written"),
+            false => self.put_arguments(count),
         }
+    }
+
+    fn put_arguments(&mut self, count: usize) -> Result<(), AllocError>
+        ensures arguments { IfOk result (λ u. HasArguments (state self.old) (state self.new)) }
+        ensures source { IfOk result (λ u. source (state self.new) ≡ source (state self.old)) }
+    {
         let list = self.expressions.take_list()?;
         let named = self.expressions.take_name();
         let row = row_named(self.word(named));
@@ -183,7 +192,7 @@ impl<'t> Checker<'t> {
             self.pending.have_stage = true;
         }
         let has_list = count > named;
-        let arguments = self.arguments(row, has_list, list)?;
+        let arguments = self.arguments(takes_names(row), has_list, list)?;
         self.put_attribute(row, named, &arguments)?;
         self.note_values(arguments.parts)
     }
@@ -191,38 +200,44 @@ impl<'t> Checker<'t> {
     /// What stands in this list, the one of an attribute.
     fn arguments(
         &mut self,
-        row: Option<Row>,
+        takes_names: bool,
         has_list: bool,
         list: Vec<Item>,
     ) -> Result<Arguments, AllocError>
-        ensures arguments { IfOk result (λ x. HasArguments (state self.old) (state self.new)) }
-        ensures declarations { IfOk result (λ x. (state self.new).declarations ≡ (state self.old).declarations) }
+        ensures arguments { IfOk result (λ x. AreArguments takes_names (state self.old).stack.context (reverse list.items) [] x.parts.items) }
+        ensures state { state self.new ≡ state self.old }
     {
-        let takes_names = matches!(
-            row,
-            None | Some((_, Name::Builtin | Name::Interpolate, _, _, _))
-        );
         let mut list = list;
         let mut arguments = Arguments {
             parts: Vec::new(self.expressions.alloc),
             names: Vec::new(self.expressions.alloc),
             is_empty_list: has_list && list.is_empty(),
         };
-        for _ in 0..list.len() {
-            let name = match list.last() {
-                Some(Item::Name(count)) if takes_names => Some(*count),
-                _ => None,
-            };
-            if let Some(count) = name {
-                list.pop();
-                arguments.names.push(count)?;
-            } else {
-                let part = self.expressions.next_part(&mut list)?;
+        while let Some(item) = list.pop() {
+            self.put_argument(takes_names, item, &mut arguments)?;
+        }
+        Ok(arguments)
+    }
+
+    /// The next item in the brackets of an attribute.
+    fn put_argument(
+        &mut self,
+        takes_names: bool,
+        item: Item,
+        arguments: &mut Arguments,
+    ) -> Result<(), AllocError>
+        ensures argument { IfOk result (λ u. IsArgument (word_of takes_names item) (state self.old).stack.context item arguments.old.parts.items arguments.new.parts.items) }
+        ensures state { state self.new ≡ state self.old }
+    {
+        match word_of(takes_names, &item) {
+            Some(count) => arguments.names.push(count)?,
+            None => {
+                let part = self.expressions.part_of_item(item)?;
                 self.expressions.has_value(&part)?;
                 arguments.parts.push(part)?;
             }
         }
-        Ok(arguments)
+        Ok(())
     }
 
     /// Keeps an attribute that has no fault.
@@ -354,4 +369,28 @@ impl<'t> Checker<'t> {
         }
         Ok(Some(None))
     }
+}
+
+/// The name that an argument is which is no expression, by the number of tokens up to it.
+fn word_of(takes_names: bool, item: &Item) -> Option<usize>
+    ensures { result ≡ word_of takes_names item.now }
+{
+    match item {
+        Item::Name(count) if takes_names => Some(*count),
+        _ => None,
+    }
+}
+
+/// Whether names are no expressions in the brackets of the attribute, or of one that WGSL doesn't have.
+fn takes_names(row: Option<Row>) -> bool {
+    matches!(
+        row,
+        None | Some((_, Name::Builtin | Name::Interpolate, _, _, _))
+    )
+}
+
+fn is_const(kind: Kind) -> bool
+    ensures { result ≡ is_const kind }
+{
+    matches!(kind, Kind::Const)
 }

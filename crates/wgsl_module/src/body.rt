@@ -1,6 +1,6 @@
 // Bodies of functions (WGSL, "Function Declarations").
 ghost use Rattle.std.specs.Prelude.{◌≡◌, IfOk, slice_get};
-ghost use Rattle.wgsl_module.specs.Noted.{Keeps, reading, state};
+ghost use Rattle.wgsl_module.specs.Noted.{Keeps, reading, source, state};
 ghost use Rattle.wgsl_module.specs.Runs.{AreBodies, IsBodyOf, IsRun, cleared};
 
 use crate::attribute::Owner;
@@ -30,7 +30,7 @@ impl<'t> Checker<'t> {
     /// Reads the body of the declaration with an index, if that is a function.
     fn read_body(&mut self, tokens: &[Token], index: usize) -> Result<(), AllocError>
         ensures body { IfOk result (λ u. IsBodyOf tokens.now (slice_get self.old.declarations.items index) (reading (state self.old)) (reading (state self.new))) }
-        ensures declarations { IfOk result (λ u. (state self.new).declarations ≡ (state self.old).declarations) }
+        ensures source { IfOk result (λ u. source (state self.new) ≡ source (state self.old)) }
     {
         let Some(declaration) = self.declaration(index) else {
             return Ok(());
@@ -48,7 +48,7 @@ impl<'t> Checker<'t> {
         body: &[Event],
     ) -> Result<(), AllocError>
         ensures run { IfOk result (λ u. IsRun tokens.now body.now (reading (state self.old)) (reading (state self.new))) }
-        ensures declarations { IfOk result (λ u. (state self.new).declarations ≡ (state self.old).declarations) }
+        ensures source { IfOk result (λ u. source (state self.new) ≡ source (state self.old)) }
     {
         self.begin_body(index)?;
         self.steps(tokens, body)?;

@@ -1,4 +1,5 @@
 // The state of a check.
+ghost use Rattle.std.specs.Prelude.{◌≡◌};
 ghost use Rattle.wgsl_module.specs.Noted.{Keeps, state};
 
 use crate::attribute::{Attribute, Attributes, Owner};
@@ -56,7 +57,10 @@ pub struct Checker<'t> {
 
 impl<'t> Checker<'t> {
     /// Nothing is read yet.
-    pub fn none(alloc: Global, text: &'t str, tokens: &'t [Token]) -> Checker<'t> {
+    pub fn none(alloc: Global, text: &'t str, tokens: &'t [Token]) -> Checker<'t>
+        ensures text { (state result).stack.context.text ≡ text.now }
+        ensures tokens { (state result).stack.context.tokens ≡ tokens.now }
+    {
         Checker {
             expressions: Expressions::none(alloc, text, tokens),
             declarations: Vec::new(alloc),

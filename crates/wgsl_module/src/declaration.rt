@@ -1,7 +1,7 @@
 // Which events of a module are a declaration.
 
-ghost use Rattle.std.specs.Prelude.{◌≡◌, is_some};
-ghost use Rattle.wgsl_module.specs.Declarations.{ends};
+ghost use Rattle.std.specs.Prelude.{◌≡◌, ◌≤◌, IfOk, false, length, map, slice_range};
+ghost use Rattle.wgsl_module.specs.Declarations.{begun, body_up_to, ended, kind_of, written, written_in};
 
 use std::alloc::{AllocError, Global};
 use wgsl_reader::mark::Mark;
@@ -38,7 +38,7 @@ pub struct Declaration<'t> {
 
 /// The kind of declaration that ends with such an event, if one does.
 fn kind_of(mark: Mark) -> Option<DeclarationKind>
-    ensures { is_some result ≡ ends mark }
+    ensures { result ≡ kind_of mark }
 {
     match mark {
         Mark::Alias => Some(DeclarationKind::Alias),
@@ -54,31 +54,68 @@ fn kind_of(mark: Mark) -> Option<DeclarationKind>
     }
 }
 
+/// The kind of declaration that ends with such an event: in the body of a function none does, but for the function.
+fn ended(mark: Mark, is_in_body: bool) -> Option<DeclarationKind>
+    ensures { result ≡ ended mark is_in_body }
+{
+    match mark {
+        Mark::Function => Some(DeclarationKind::Function),
+        _ if is_in_body => None,
+        mark => kind_of(mark),
+    }
+}
+
+/// Where the body begins that is read behind the event at an index.
+fn begun(mark: Mark, index: usize, body: Option<usize>) -> Option<usize>
+    ensures { result ≡ begun mark index body }
+{
+    match (mark, body) {
+        (Mark::Begin, None) => Some(index),
+        (_, body) => body,
+    }
+}
+
+/// The events from an index up to another one; none if they aren't there.
+fn between<'t>(events: &'t [Event], from: usize, to: usize) -> &'t [Event]
+    ensures { to ≤ length events.now → result.now ≡ slice_range events.now from to }
+{
+    events.get(from..to).unwrap_or(&[])
+}
+
+/// The events from where a body began up to an index; none where none began.
+fn body_up_to<'t>(events: &'t [Event], body: Option<usize>, index: usize) -> &'t [Event]
+    ensures { index ≤ length events.now → result.now ≡ body_up_to events.now body index }
+{
+    match body {
+        Some(from) => between(events, from, index),
+        None => &[],
+    }
+}
+
 /// The declarations of a module's events, in order.
 pub fn declarations<'t>(
     alloc: Global,
     events: &'t [Event],
-) -> Result<Vec<Declaration<'t>>, AllocError> {
+) -> Result<Vec<Declaration<'t>>, AllocError>
+    ensures { IfOk result (λ found. map written found.items ≡ written_in false events.now) }
+{
     let mut found = Vec::new(alloc);
     let mut from = 0;
     let mut body = None;
     for (index, event) in events.iter().enumerate() {
-        match kind_of(event.mark) {
-            Some(kind) if body.is_none() || kind == DeclarationKind::Function => {
-                let split = body.unwrap_or(index);
-                let own = events.get(from..split).unwrap_or(&[]);
-                found.push(Declaration {
-                    kind,
-                    named: name_of(kind, own),
-                    events: own,
-                    body: events.get(split..index).unwrap_or(&[]),
-                })?;
-                from = index.saturating_add(1);
-                body = None;
-            }
-            None if matches!(event.mark, Mark::Begin) && body.is_none() => body = Some(index),
-            _ => {}
-        }
+        let Some(kind) = ended(event.mark, body.is_some()) else {
+            body = begun(event.mark, index, body);
+            continue;
+        };
+        let own = between(events, from, body.unwrap_or(index));
+        found.push(Declaration {
+            kind,
+            named: name_of(kind, own),
+            events: own,
+            body: body_up_to(events, body, index),
+        })?;
+        from = index + 1;
+        body = None;
     }
     Ok(found)
 }

@@ -1,7 +1,7 @@
 // Values that a module declares: `const`, `override` and `var` (WGSL, "Value Declarations", "Variable Declarations"), and the
 // numbers that tell them apart. Only tested.
 ghost use Rattle.std.specs.Prelude.{◌≡◌, IfOk};
-ghost use Rattle.wgsl_module.specs.Noted.{Keeps, reading, standing, state};
+ghost use Rattle.wgsl_module.specs.Noted.{Keeps, reading, source, standing, state};
 ghost use Rattle.wgsl_typing.specs.Stacks.{below_space};
 
 use crate::attribute::{Attributes, Name};
@@ -29,7 +29,7 @@ impl<'t> Checker<'t> {
         named: usize,
         attributes: Attributes,
     ) -> Result<Known, AllocError>
-        ensures { IfOk result (λ x. (state self.new).declarations ≡ (state self.old).declarations) }
+        ensures { IfOk result (λ x. source (state self.new) ≡ source (state self.old)) }
     {
         let part = self.value_part(kind)?;
         let declared = self.expressions.take_declared()?;
@@ -49,7 +49,7 @@ impl<'t> Checker<'t> {
 
     /// The expression behind the `=`.
     fn value_part(&mut self, kind: DeclarationKind) -> Result<Option<Part>, AllocError>
-        ensures { IfOk result (λ x. (state self.new).declarations ≡ (state self.old).declarations) }
+        ensures { IfOk result (λ x. source (state self.new) ≡ source (state self.old)) }
     {
         match kind {
             DeclarationKind::Const => Ok(Some(self.expressions.take_part()?)),
@@ -65,7 +65,7 @@ impl<'t> Checker<'t> {
         declared: &Declared,
         attributes: Attributes,
     ) -> Result<Option<Typed>, AllocError>
-        ensures { IfOk result (λ x. (state self.new).declarations ≡ (state self.old).declarations) }
+        ensures { IfOk result (λ x. source (state self.new) ≡ source (state self.old)) }
     {
         match (kind, part) {
             (DeclarationKind::Variable, _) => {

@@ -1,5 +1,7 @@
 // What the grammar doesn't read.
 ghost use Rattle.std.specs.Prelude.{◌≡◌, IfOk, map};
+ghost use Rattle.wgsl_module.specs.Declarations.{bodies_of, written};
+ghost use Rattle.wgsl_module.specs.Noted.{state};
 ghost use Rattle.wgsl_module.specs.Told.{broken, unread};
 
 use crate::checker::Checker;
@@ -46,7 +48,10 @@ fn unread(alloc: Global, text: Text<'_>, misread: Misread) -> Result<Fault, Allo
 
 impl<'t> Checker<'t> {
     /// Declares the names of what the grammar doesn't read, which are faulty.
-    pub fn declare_misread(&mut self, all: &[Misread]) -> Result<(), AllocError> {
+    pub fn declare_misread(&mut self, all: &[Misread]) -> Result<(), AllocError>
+        ensures bodies { IfOk result (λ u. bodies_of (map written self.new.declarations.items) ≡ bodies_of (map written self.old.declarations.items)) }
+        ensures stack { (state self.new).stack ≡ (state self.old).stack }
+    {
         for misread in all {
             if let Some(named) = self.misread_name(*misread) {
                 self.declarations.push(Declaration {

@@ -1,8 +1,8 @@
 // The check of a module.
 ghost use Rattle.std.specs.Prelude.{◌≡◌, [], IfOk, map, slice_get, true};
 ghost use Rattle.wgsl_module.specs.Checked.{AreTyped, IsRead, TellsReading, are_known, told_of_reading};
-ghost use Rattle.wgsl_module.specs.Noted.{Keeps, Reading, reading, state};
-ghost use Rattle.wgsl_module.specs.Runs.{AreBodies};
+ghost use Rattle.wgsl_module.specs.Noted.{Keeps, Reading, reading, source, state};
+ghost use Rattle.wgsl_module.specs.Runs.{AreBodies, HasBodies, HasRuns, IsOf};
 ghost use Rattle.wgsl_module.specs.Told.{AreTold, broken};
 
 use crate::attribute::{Attributes, Owner};
@@ -51,6 +51,7 @@ pub fn check<'t>(
     ensures reading { IfOk result (λ c. TellsReading c.tokens.items c.faults.items) }
     ensures read { IfOk result (λ c. c.faults.items ≡ [] → IsRead c.tokens.items) }
     ensures typed { IfOk result (λ c. are_known given.entry.items ≡ true → c.faults.items ≡ [] → AreTyped c.parts.items) }
+    ensures bodies { IfOk result (λ c. HasBodies text.now c.tokens.items c.parts.items) }
 {
     let tokens = tokens(alloc, text.as_bytes())?;
     let grammar = read_module(alloc, &tokens)?;
@@ -71,7 +72,8 @@ fn read_all<'t>(
     tokens: &'t [Token],
     grammar: &'t Module,
 ) -> Result<Checked, AllocError>
-    ensures { IfOk result (λ c. AreTold (told_of_reading tokens.now grammar.now.events.items grammar.now.misread.items) c.faults.items) }
+    ensures told { IfOk result (λ c. AreTold (told_of_reading tokens.now grammar.now.events.items grammar.now.misread.items) c.faults.items) }
+    ensures bodies { IfOk result (λ c. HasRuns text.now tokens.now grammar.now.events.items c.parts.items) }
 {
     let mut checker = Checker::none(alloc, text, tokens);
     checker.declarations = declarations(alloc, &grammar.events)?;
@@ -150,7 +152,8 @@ impl<'t> Checker<'t> {
         tokens: &[Token],
         given: Vec<(&'t str, Known)>,
     ) -> Result<(), AllocError>
-        ensures { IfOk result (λ u. (between : Reading) × AreBodies tokens.now self.old.declarations.items between (reading (state self.new))) }
+        ensures { IfOk result (λ u. (between : Reading) × IsOf (state self.old).stack.context.text (state self.old).stack.context.tokens between
+            × AreBodies tokens.now self.old.declarations.items between (reading (state self.new))) }
     {
         self.declare_all(tokens, given)?;
         self.read_bodies(tokens)?;
@@ -164,7 +167,7 @@ impl<'t> Checker<'t> {
         tokens: &[Token],
         given: Vec<(&'t str, Known)>,
     ) -> Result<(), AllocError>
-        ensures { IfOk result (λ u. (state self.new).declarations ≡ (state self.old).declarations) }
+        ensures { IfOk result (λ u. source (state self.new) ≡ source (state self.old)) }
     {
         self.name_all()?;
         for (name, known) in given {
@@ -253,7 +256,7 @@ impl<'t> Checker<'t> {
 
     /// Reads a declaration behind those that it needs.
     fn declare(&mut self, tokens: &[Token], index: usize) -> Result<(), AllocError>
-        ensures { IfOk result (λ u. (state self.new).declarations ≡ (state self.old).declarations) }
+        ensures { IfOk result (λ u. source (state self.new) ≡ source (state self.old)) }
     {
         let Some(declaration) = self.declaration(index) else {
             return Ok(());
@@ -276,7 +279,7 @@ impl<'t> Checker<'t> {
         tokens: &[Token],
         declaration: Declaration<'t>,
     ) -> Result<(), AllocError>
-        ensures { IfOk result (λ u. (state self.new).declarations ≡ (state self.old).declarations) }
+        ensures { IfOk result (λ u. source (state self.new) ≡ source (state self.old)) }
     {
         self.tell_extensions(declaration)?;
         self.steps(tokens, declaration.events)
@@ -313,7 +316,7 @@ impl<'t> Checker<'t> {
         tokens: &[Token],
         declaration: Declaration<'t>,
     ) -> Result<Attributes, AllocError>
-        ensures { IfOk result (λ u. (state self.new).declarations ≡ (state self.old).declarations) }
+        ensures { IfOk result (λ u. source (state self.new) ≡ source (state self.old)) }
     {
         let (events, named) = (declaration.events, declaration.named.unwrap_or(0));
         let split = events.partition_point(|event| event.at < named);
@@ -345,7 +348,7 @@ impl<'t> Checker<'t> {
         index: usize,
         declaration: Declaration<'t>,
     ) -> Result<Known, AllocError>
-        ensures { IfOk result (λ u. (state self.new).declarations ≡ (state self.old).declarations) }
+        ensures { IfOk result (λ u. source (state self.new) ≡ source (state self.old)) }
     {
         let named = declaration.named.unwrap_or(0);
         let attributes = self.read_events(tokens, declaration)?;

@@ -1,6 +1,6 @@
 // What is done where something is noted.
 ghost use Rattle.std.specs.Prelude.{◌≡◌, IfOk};
-ghost use Rattle.wgsl_module.specs.Noted.{Comes, Does, Keeps, Statement, state};
+ghost use Rattle.wgsl_module.specs.Noted.{Comes, Does, Keeps, Statement, source, state};
 
 use crate::checker::Checker;
 use std::alloc::AllocError;
@@ -15,7 +15,7 @@ impl<'t> Checker<'t> {
     /// Does what events say, one by one.
     pub fn steps(&mut self, tokens: &[Token], events: &[Event]) -> Result<(), AllocError>
         ensures events { IfOk result (λ u. Comes tokens.now events.now (state self.old) (state self.new)) }
-        ensures declarations { IfOk result (λ u. (state self.new).declarations ≡ (state self.old).declarations) }
+        ensures source { IfOk result (λ u. source (state self.new) ≡ source (state self.old)) }
     {
         for event in events {
             self.step(kind_before(tokens, event.at), *event)?;
@@ -35,7 +35,7 @@ impl<'t> Checker<'t> {
 
     fn step_of_statement(&mut self, word: Kind, event: Event) -> Result<(), AllocError>
         ensures statement { IfOk result (λ u. Statement event.mark event.at (state self.old) (state self.new)) }
-        ensures declarations { IfOk result (λ u. (state self.new).declarations ≡ (state self.old).declarations) }
+        ensures source { IfOk result (λ u. source (state self.new) ≡ source (state self.old)) }
     {
         let count = event.at;
         match event.mark {

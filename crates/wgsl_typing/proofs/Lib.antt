@@ -4,3 +4,4 @@ pub mod OnlyMember
 pub mod Operands
 pub mod Outcomes
 pub mod Parameters
+pub mod Taken

@@ -10,6 +10,7 @@ pub mod Parameters
 pub mod Predeclared
 pub mod Stacks
 pub mod Steps
+pub mod Taken
 pub mod Templates
 pub mod Types
 pub mod Words

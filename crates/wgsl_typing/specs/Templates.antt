@@ -29,6 +29,7 @@ use Rattle.wgsl_typing.specs.Names.{Context, meaning_at, word_in}
 use Rattle.wgsl_typing.specs.Parameters.{IsCount, access_listed, access_of, format_of, space_listed, space_of}
 use Rattle.wgsl_typing.specs.Predeclared.{type_called}
 use Rattle.wgsl_typing.specs.Stacks.{Stack}
+use Rattle.wgsl_typing.specs.Taken.{TakesIf, below_list, called_on, in_list, is_array}
 use Rattle.wgsl_typing.specs.Types.{type_of_item}
 use Rattle.wgsl_typing.specs.declared.item.Item.{Item}
 use Rattle.wgsl_typing.specs.declared.item.Item.TheVariants as items
@@ -181,24 +182,12 @@ IsListed c count items l = IsMeaningListed c count (meaning_at c count) items l
 
 -- The step
 
-abbrev pub is_open : Item → Bool
-is_open items.OpenList = true
-is_open i = false
-
--- the items of the innermost list, the last first, and what stands below its `<`
-abbrev pub in_list : List Item → List Item
-in_list [] = []
-in_list (i ∷ rest) = cond (is_open i) [] (i ∷ in_list rest)
-
-abbrev pub below_list : List Item → List Item
-below_list [] = []
-below_list (i ∷ rest) = cond (is_open i) rest (below_list rest)
-
 -- a name with its list, or the list of a variable
 abbrev pub IsClosed : ℕ → Context → List Item → List Item → List Item → Type 0
 IsClosed at c listed (items.Name count ∷ rest) is = (l : Listed) × IsListed c count listed l × (is ≡ items.Listed (up_to (last_of count) (last_of at)) l ∷ rest)
 IsClosed at c listed rest is = is ≡ items.Space (space_listed c listed) ∷ rest
 
--- `>`: which expressions of the list are used isn't said here.
+-- `>`
 abbrev pub Template : ℕ → Stack → Stack → Type 0
 Template at s r = IsClosed at s.context (reverse (in_list s.items)) (below_list s.items) r.items × (r.context ≡ s.context)
+    × TakesIf (is_array (called_on s.context (below_list s.items))) s.context (reverse (in_list s.items)) [] s.parts r.parts

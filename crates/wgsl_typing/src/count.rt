@@ -1,5 +1,5 @@
 // Arrays, and how many elements they have (WGSL, "Array Types").
-ghost use Rattle.std.specs.Prelude.{◌≡◌, ◌≤◌, IfOk, None, Some, option_map, reverse};
+ghost use Rattle.std.specs.Prelude.{[], ◌≡◌, ◌∷◌, ◌++◌, ◌≤◌, IfOk, None, Some, option_map, reverse, true};
 ghost use Rattle.wgsl_constants.specs.Conversions.{number};
 ghost use Rattle.wgsl_core.specs.View.{view};
 ghost use Rattle.wgsl_forms.specs.Index.{is_index};
@@ -8,7 +8,8 @@ ghost use Rattle.wgsl_rules.specs.types.Types.{array};
 ghost use Rattle.wgsl_typing.specs.Counts.{IsCountOf, const_count, count_of, integer_in, is_counted_by_override};
 ghost use Rattle.wgsl_typing.specs.Names.{context};
 ghost use Rattle.wgsl_typing.specs.Parameters.{IsCount};
-ghost use Rattle.wgsl_typing.specs.Stacks.{KeepsItems, stack};
+ghost use Rattle.wgsl_typing.specs.Stacks.{IsOperand, KeepsItems, stack};
+ghost use Rattle.wgsl_typing.specs.Taken.{TakesIf};
 ghost use Rattle.wgsl_typing.specs.Templates.{IsArrayListed, IsLimited, is_element, may_be_counted};
 
 use crate::expressions::Expressions;
@@ -37,6 +38,8 @@ impl<'t> Expressions<'t> {
     pub fn array(&mut self, named: usize, list: &mut Vec<Item>) -> Result<Option<Type>, AllocError>
         ensures answer { IfOk result (λ ty. IsArrayListed (context self.old) (reverse list.old.items) (option_map view ty)) }
         ensures stack { IfOk result (λ ty. KeepsItems (stack self.old) (stack self.new)) }
+        ensures taken { IfOk result (λ ty. TakesIf true (context self.old) (reverse list.old.items) (reverse list.new.items)
+            self.old.parts.items self.new.parts.items) }
     {
         if !self.has_length(named, list, 1, 2)? {
             return Ok(None);
@@ -79,6 +82,7 @@ impl<'t> Expressions<'t> {
     fn count_in(&mut self, named: usize, item: Item) -> Result<Option<usize>, AllocError>
         ensures answer { IfOk result (IsCount (context self.old) item) }
         ensures stack { IfOk result (λ count. KeepsItems (stack self.old) (stack self.new)) }
+        ensures noted { IfOk result (λ count. (x : Part) × IsOperand (context self.old) (item ∷ []) x × (self.new.parts.items ≡ self.old.parts.items ++ x ∷ [])) }
     {
         let name = name_of(&item);
         let part = self.part_of_item(item)?;

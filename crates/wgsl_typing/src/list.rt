@@ -2,11 +2,12 @@
 ghost use Rattle.std.specs.Prelude.{◌≡◌, ◌∷◌, IfOk, Some, option_map, reverse};
 ghost use Rattle.wgsl_constants.specs.Literals.{then};
 ghost use Rattle.wgsl_core.specs.View.{view};
-ghost use Rattle.wgsl_typing.specs.Names.{context, word_in};
+ghost use Rattle.wgsl_typing.specs.Names.{context, meaning_at, word_in};
 ghost use Rattle.wgsl_typing.specs.Parameters.{space_listed};
 ghost use Rattle.wgsl_typing.specs.Predeclared.{type_called};
-ghost use Rattle.wgsl_typing.specs.Stacks.{KeepsItems, stack, with_items};
-ghost use Rattle.wgsl_typing.specs.Templates.{IsAround, IsClosed, IsLimited, IsListed, IsPredeclaredListed, IsTypeListed, Template, atomic_of, below_list, in_list, is_component, is_float, is_integer, is_open, matrix_of, only_type, pointer_listed, pointer_of, template_of, vector_of};
+ghost use Rattle.wgsl_typing.specs.Stacks.{KeepsItems, stack, with_items, with_parts};
+ghost use Rattle.wgsl_typing.specs.Taken.{TakesFrom, TakesIf, below_list, called_by, called_on, expressions_in, in_list, is_array, is_open};
+ghost use Rattle.wgsl_typing.specs.Templates.{IsAround, IsClosed, IsLimited, IsListed, IsPredeclaredListed, IsTypeListed, Template, atomic_of, is_component, is_float, is_integer, matrix_of, only_type, pointer_listed, pointer_of, template_of, vector_of};
 
 use crate::count::may_be_counted;
 use crate::expressions::Expressions;
@@ -64,6 +65,8 @@ impl<'t> Expressions<'t> {
     fn closed(&mut self, count: usize, list: &mut Vec<Item>) -> Result<Item, AllocError>
         ensures item { IfOk result (λ item. IsClosed count (context self.old) (reverse list.old.items) (stack self.old).items (item ∷ (stack self.new).items)) }
         ensures context { IfOk result (λ item. context self.new ≡ context self.old) }
+        ensures taken { IfOk result (λ item. TakesIf (is_array (called_on (context self.old) (stack self.old).items)) (context self.old) (reverse list.old.items)
+            (reverse list.new.items) self.old.parts.items self.new.parts.items) }
     {
         match self.items.pop() {
             Some(Item::Name(named)) => {
@@ -78,12 +81,13 @@ impl<'t> Expressions<'t> {
         }
     }
 
-    /// Notes expressions that are left of a list.
+    /// Notes the expressions that are left of a list, whose first item stands last.
     fn note_left(&mut self, list: Vec<Item>) -> Result<(), AllocError>
-        ensures { IfOk result (λ u. KeepsItems (stack self.old) (stack self.new)) }
+        ensures { IfOk result (λ u. stack self.new ≡ with_parts (expressions_in (reverse list.items)) (stack self.old)) }
     {
-        for left in list {
-            if let Item::Part(part) = left {
+        let mut list = list;
+        while let Some(item) = list.pop() {
+            if let Item::Part(part) = item {
                 self.note(part)?;
             }
         }
@@ -94,6 +98,8 @@ impl<'t> Expressions<'t> {
     fn listed(&mut self, named: usize, list: &mut Vec<Item>) -> Result<Listed, AllocError>
         ensures answer { IfOk result (IsListed (context self.old) named (reverse list.old.items)) }
         ensures stack { IfOk result (λ l. KeepsItems (stack self.old) (stack self.new)) }
+        ensures taken { IfOk result (λ l. TakesIf (is_array (called_by (context self.old) named (meaning_at (context self.old) named))) (context self.old) (reverse list.old.items)
+            (reverse list.new.items) self.old.parts.items self.new.parts.items) }
     {
         match self.meaning(named) {
             Meaning::Undeclared => self.predeclared_listed(named, list),
@@ -116,6 +122,8 @@ impl<'t> Expressions<'t> {
         ensures answer { IfOk result (IsPredeclaredListed (context self.old) named
             (type_called (word_in (context self.old) named)) (reverse list.old.items)) }
         ensures stack { IfOk result (λ l. KeepsItems (stack self.old) (stack self.new)) }
+        ensures taken { IfOk result (λ l. TakesIf (is_array (type_called (word_in (context self.old) named))) (context self.old) (reverse list.old.items)
+            (reverse list.new.items) self.old.parts.items self.new.parts.items) }
     {
         match predeclared_type(self.word(named)) {
             Some(predeclared) => Ok(Listed::Type(self.with_list(named, predeclared, list)?)),
@@ -131,6 +139,8 @@ impl<'t> Expressions<'t> {
     ) -> Result<Option<Type>, AllocError>
         ensures answer { IfOk result (λ ty. IsTypeListed (context self.old) predeclared (reverse list.old.items) (option_map view ty)) }
         ensures stack { IfOk result (λ l. KeepsItems (stack self.old) (stack self.new)) }
+        ensures taken { IfOk result (λ ty. TakesIf (is_array (Some predeclared)) (context self.old) (reverse list.old.items)
+            (reverse list.new.items) self.old.parts.items self.new.parts.items) }
     {
         match predeclared {
             PredeclaredType::Layer(layer) => self.around_type(named, layer, list),
@@ -144,6 +154,7 @@ impl<'t> Expressions<'t> {
         ensures answer { IfOk result (λ ty. option_map view ty
             ≡ template_of (context self.old) (word_in (context self.old) named) (reverse list.old.items)) }
         ensures stack { IfOk result (λ l. KeepsItems (stack self.old) (stack self.new)) }
+        ensures taken { IfOk result (λ ty. TakesFrom (reverse list.old.items) (reverse list.new.items) self.old.parts.items self.new.parts.items) }
     {
         let name = self.word(named);
         if overloads(Callee::Function(name), true).is_some() {
@@ -165,6 +176,7 @@ impl<'t> Expressions<'t> {
     ) -> Result<Option<(AddressSpace, Option<AccessMode>)>, AllocError>
         ensures answer { IfOk result (λ space. space ≡ space_listed (context self.old) (reverse list.old.items)) }
         ensures stack { stack self.new ≡ stack self.old }
+        ensures kept { IfOk result (λ space. expressions_in (reverse list.new.items) ≡ expressions_in (reverse list.old.items)) }
     {
         let Some(space) = self.next_space(list)? else {
             return Ok(None);
@@ -198,6 +210,8 @@ impl<'t> Expressions<'t> {
     ) -> Result<Option<Type>, AllocError>
         ensures answer { IfOk result (λ ty. IsAround (context self.old) layer (reverse list.old.items) (option_map view ty)) }
         ensures stack { IfOk result (λ ty. KeepsItems (stack self.old) (stack self.new)) }
+        ensures taken { IfOk result (λ ty. TakesIf (is_array (Some (PredeclaredType.Layer layer))) (context self.old) (reverse list.old.items)
+            (reverse list.new.items) self.old.parts.items self.new.parts.items) }
     {
         match layer {
             LayerName::Vec(n) => self.vector(named, n, list),
@@ -217,6 +231,7 @@ impl<'t> Expressions<'t> {
     ) -> Result<Option<Type>, AllocError>
         ensures answer { IfOk result (λ ty. option_map view ty ≡ then (only_type (context self.old) (reverse list.old.items)) (vector_of n)) }
         ensures stack { IfOk result (λ ty. KeepsItems (stack self.old) (stack self.new)) }
+        ensures taken { IfOk result (λ ty. TakesFrom (reverse list.old.items) (reverse list.new.items) self.old.parts.items self.new.parts.items) }
     {
         let Some(of) = self.only_type(named, list)? else {
             return Ok(None);
@@ -236,6 +251,7 @@ impl<'t> Expressions<'t> {
     ) -> Result<Option<Type>, AllocError>
         ensures answer { IfOk result (λ ty. option_map view ty ≡ then (only_type (context self.old) (reverse list.old.items)) (matrix_of c r)) }
         ensures stack { IfOk result (λ ty. KeepsItems (stack self.old) (stack self.new)) }
+        ensures taken { IfOk result (λ ty. TakesFrom (reverse list.old.items) (reverse list.new.items) self.old.parts.items self.new.parts.items) }
     {
         let Some(of) = self.only_type(named, list)? else {
             return Ok(None);
@@ -249,6 +265,7 @@ impl<'t> Expressions<'t> {
     fn atomic(&mut self, named: usize, list: &mut Vec<Item>) -> Result<Option<Type>, AllocError>
         ensures answer { IfOk result (λ ty. option_map view ty ≡ then (only_type (context self.old) (reverse list.old.items)) atomic_of) }
         ensures stack { IfOk result (λ ty. KeepsItems (stack self.old) (stack self.new)) }
+        ensures taken { IfOk result (λ ty. TakesFrom (reverse list.old.items) (reverse list.new.items) self.old.parts.items self.new.parts.items) }
     {
         let Some(of) = self.only_type(named, list)? else {
             return Ok(None);
@@ -262,6 +279,7 @@ impl<'t> Expressions<'t> {
     fn pointer(&mut self, named: usize, list: &mut Vec<Item>) -> Result<Option<Type>, AllocError>
         ensures answer { IfOk result (λ ty. IsLimited (pointer_listed (context self.old) (reverse list.old.items)) (option_map view ty)) }
         ensures stack { IfOk result (λ ty. KeepsItems (stack self.old) (stack self.new)) }
+        ensures taken { IfOk result (λ ty. TakesFrom (reverse list.old.items) (reverse list.new.items) self.old.parts.items self.new.parts.items) }
     {
         if !self.has_length(named, list, 2, 3)? {
             return Ok(None);

@@ -1,9 +1,10 @@
 // The parameters of template lists, from the front of a list, whose first item stands last (WGSL, "Template Lists").
-ghost use Rattle.std.specs.Prelude.{◌≡◌, [], ◌∷◌, ◌&&◌, IfOk, IfSome, None, length, nat_le, option_map, reverse};
+ghost use Rattle.std.specs.Prelude.{◌≡◌, [], ◌∷◌, ◌++◌, ◌&&◌, IfOk, IfSome, None, length, nat_le, option_map, reverse};
 ghost use Rattle.wgsl_core.specs.View.{view};
 ghost use Rattle.wgsl_typing.specs.Names.{context, word_in};
 ghost use Rattle.wgsl_typing.specs.Parameters.{access_called, access_listed, access_of, enumerant, of_first, space_called, space_of};
 ghost use Rattle.wgsl_typing.specs.Stacks.{IsOperand, KeepsItems, below, stack, with_parts};
+ghost use Rattle.wgsl_typing.specs.Taken.{TakesFrom, expressions_in};
 ghost use Rattle.wgsl_typing.specs.Templates.{only_type};
 ghost use Rattle.wgsl_typing.specs.Types.{no_type_on, type_of_item};
 
@@ -87,6 +88,7 @@ impl<'t> Expressions<'t> {
     ) -> Result<Option<Type>, AllocError>
         ensures answer { IfOk result (λ ty. option_map view ty ≡ only_type (context self.old) (reverse list.old.items)) }
         ensures stack { IfOk result (λ ty. KeepsItems (stack self.old) (stack self.new)) }
+        ensures taken { IfOk result (λ ty. TakesFrom (reverse list.old.items) (reverse list.new.items) self.old.parts.items self.new.parts.items) }
     {
         match self.has_length(named, list, 1, 1)? {
             true => self.next_type(list),
@@ -99,18 +101,12 @@ impl<'t> Expressions<'t> {
         ensures answer { IfOk result (λ ty. option_map view ty ≡ of_first (type_of_item (context self.old)) (reverse list.old.items)) }
         ensures list { reverse list.new.items ≡ below (reverse list.old.items) }
         ensures stack { IfOk result (λ ty. KeepsItems (stack self.old) (stack self.new)) }
+        ensures parts { IfOk result (λ ty. self.new.parts.items ≡ self.old.parts.items ++ no_type_on (reverse list.old.items)) }
+        ensures taken { IfOk result (λ ty. TakesFrom (reverse list.old.items) (reverse list.new.items) self.old.parts.items self.new.parts.items) }
     {
         match list.pop() {
             Some(item) => self.type_of_item(item),
             None => Ok(None),
-        }
-    }
-
-    /// The expression that the next item of a list is.
-    pub fn next_part(&mut self, list: &mut Vec<Item>) -> Result<Part, AllocError> {
-        match list.pop() {
-            Some(item) => self.part_of_item(item),
-            None => self.take_part(),
         }
     }
 
@@ -119,6 +115,7 @@ impl<'t> Expressions<'t> {
         ensures answer { IfOk result (λ found. option_map (word_in (context self.old)) found ≡ of_first (enumerant (context self.old)) (reverse list.old.items)) }
         ensures list { IfOk result (λ found. IfSome found (λ count. reverse list.new.items ≡ below (reverse list.old.items))) }
         ensures stack { stack self.new ≡ stack self.old }
+        ensures kept { IfOk result (λ found. expressions_in (reverse list.new.items) ≡ expressions_in (reverse list.old.items)) }
     {
         let Some(item) = list.pop() else {
             return Ok(None);
@@ -138,6 +135,7 @@ impl<'t> Expressions<'t> {
         ensures answer { IfOk result (λ space. space ≡ of_first (space_of (context self.old)) (reverse list.old.items)) }
         ensures list { IfOk result (λ space. IfSome space (λ s. reverse list.new.items ≡ below (reverse list.old.items))) }
         ensures stack { stack self.new ≡ stack self.old }
+        ensures kept { IfOk result (λ space. expressions_in (reverse list.new.items) ≡ expressions_in (reverse list.old.items)) }
     {
         let Some(count) = self.next_enumerant(list)? else {
             return Ok(None);
@@ -153,6 +151,7 @@ impl<'t> Expressions<'t> {
     pub fn next_access(&mut self, list: &mut Vec<Item>) -> Result<Option<AccessMode>, AllocError>
         ensures answer { IfOk result (λ access. access ≡ of_first (access_of (context self.old)) (reverse list.old.items)) }
         ensures stack { stack self.new ≡ stack self.old }
+        ensures kept { IfOk result (λ access. expressions_in (reverse list.new.items) ≡ expressions_in (reverse list.old.items)) }
     {
         let Some(count) = self.next_enumerant(list)? else {
             return Ok(None);
@@ -172,6 +171,7 @@ impl<'t> Expressions<'t> {
     ) -> Result<Option<Option<AccessMode>>, AllocError>
         ensures answer { IfOk result (λ access. access ≡ access_listed (context self.old) (reverse list.old.items)) }
         ensures stack { stack self.new ≡ stack self.old }
+        ensures kept { IfOk result (λ access. expressions_in (reverse list.new.items) ≡ expressions_in (reverse list.old.items)) }
     {
         match list.len() {
             0 => Ok(Some(None)),

@@ -4,6 +4,7 @@ ghost use Rattle.wgsl_core.specs.View.{view};
 ghost use Rattle.wgsl_typing.specs.Names.{context};
 ghost use Rattle.wgsl_typing.specs.Parameters.{format_called, format_of, of_first};
 ghost use Rattle.wgsl_typing.specs.Stacks.{KeepsItems, below, stack};
+ghost use Rattle.wgsl_typing.specs.Taken.{TakesFrom, expressions_in};
 ghost use Rattle.wgsl_typing.specs.Templates.{parameters_listed, sampled_listed, sampled_of, stored_listed, texture_listed};
 
 use crate::expressions::Expressions;
@@ -30,6 +31,7 @@ impl<'t> Expressions<'t> {
     ) -> Result<Option<Type>, AllocError>
         ensures answer { IfOk result (λ ty. option_map view ty ≡ texture_listed (context self.old) texture (reverse list.old.items)) }
         ensures stack { IfOk result (λ ty. KeepsItems (stack self.old) (stack self.new)) }
+        ensures taken { IfOk result (λ ty. TakesFrom (reverse list.old.items) (reverse list.new.items) self.old.parts.items self.new.parts.items) }
     {
         match self.texture_parameters(named, texture.parameter_kind(), list)? {
             Some(parameters) => Ok(texture_type(texture, parameters)),
@@ -45,6 +47,7 @@ impl<'t> Expressions<'t> {
     ) -> Result<Option<TextureParameters>, AllocError>
         ensures answer { IfOk result (λ p. p ≡ parameters_listed (context self.old) kind (reverse list.old.items)) }
         ensures stack { IfOk result (λ p. KeepsItems (stack self.old) (stack self.new)) }
+        ensures taken { IfOk result (λ p. TakesFrom (reverse list.old.items) (reverse list.new.items) self.old.parts.items self.new.parts.items) }
     {
         match kind {
             TextureParameterKind::None => self.nothing(Rule::Name, named, "takes no template list"),
@@ -60,6 +63,7 @@ impl<'t> Expressions<'t> {
     ) -> Result<Option<TextureParameters>, AllocError>
         ensures answer { IfOk result (λ p. p ≡ sampled_listed (context self.old) (reverse list.old.items)) }
         ensures stack { IfOk result (λ p. KeepsItems (stack self.old) (stack self.new)) }
+        ensures taken { IfOk result (λ p. TakesFrom (reverse list.old.items) (reverse list.new.items) self.old.parts.items self.new.parts.items) }
     {
         let Some(ty) = self.only_type(named, list)? else {
             return Ok(None);
@@ -77,6 +81,7 @@ impl<'t> Expressions<'t> {
     ) -> Result<Option<TextureParameters>, AllocError>
         ensures answer { IfOk result (λ p. p ≡ stored_listed (context self.old) (reverse list.old.items)) }
         ensures stack { stack self.new ≡ stack self.old }
+        ensures kept { IfOk result (λ p. expressions_in (reverse list.new.items) ≡ expressions_in (reverse list.old.items)) }
     {
         if !self.has_length(named, list, 2, 2)? {
             return Ok(None);
@@ -94,6 +99,7 @@ impl<'t> Expressions<'t> {
         ensures answer { IfOk result (λ format. format ≡ of_first (format_of (context self.old)) (reverse list.old.items)) }
         ensures list { IfOk result (λ format. IfSome format (λ f. reverse list.new.items ≡ below (reverse list.old.items))) }
         ensures stack { stack self.new ≡ stack self.old }
+        ensures kept { IfOk result (λ format. expressions_in (reverse list.new.items) ≡ expressions_in (reverse list.old.items)) }
     {
         let Some(count) = self.next_enumerant(list)? else {
             return Ok(None);

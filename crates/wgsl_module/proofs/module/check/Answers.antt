@@ -11,6 +11,6 @@ returns-clause-read c =
     let grammar = c.in_ok-grammar.grammar in
     let before = c.in_ok-checked.checked.faults.items in
     let reads = subst (λ ts. ReadsModule (map kind_of ts) grammar.events.items grammar.misread.items) c.deref.ensures.value c.in_ok-grammar.ensures in
-    let told = subst (λ ts. AreTold (told_of_reading ts grammar.events.items grammar.misread.items) before) c.deref-3.ensures.value c.in_ok-checked.ensures in
+    let told = subst (λ ts. AreTold (told_of_reading ts grammar.events.items grammar.misread.items) before) c.deref-3.ensures.value c.in_ok-checked.ensures.told in
     let faults = c.tell_untyped.new.faults.items in
     λ none. read_whole c.in_ok-tokens.tokens.items grammar.events.items grammar.misread.items faults reads (λ b h. c.in_ok-tell_untyped.ensures.kept b (told b h)) none

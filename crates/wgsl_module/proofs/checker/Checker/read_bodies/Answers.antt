@@ -1,4 +1,4 @@
-use Rattle.std.proofs.Common.{◌∙◌, slice_get, subst}
+use Rattle.std.proofs.Common.{◌∙◌, ap, slice_get, subst}
 use Rattle.wgsl_module.specs.Noted.{reading, state}
 use Rattle.wgsl_module.specs.Runs.{IsBodyOf}
 use Rattle.wgsl_module.proofs.Runs.{next_body}
@@ -7,7 +7,7 @@ use Rattle.wgsl_module.proofs.checker.Checker.read_bodies.Goals as goal
 pub loop-index-preserved : goal.loop-index-preserved
 loop-index-preserved c =
     let body = subst (λ ds. IsBodyOf c.args.tokens.now (slice_get ds c.loop-index.index) (reading (state c.loop-index.self)) (reading (state c.read_body.new.self)))
-    c.loop-index.invariant.1 c.in_ok-read_body.ensures.body in (
+    (ap (λ t. t.2) c.loop-index.invariant.1) c.in_ok-read_body.ensures.body in (
       λ r rest. c.loop-index.invariant.0 r (next_body c.args.tokens.now c.args.self.now.declarations.items c.loop-index.index _ _ r body rest),
-      c.in_ok-read_body.ensures.declarations ∙ c.loop-index.invariant.1,
+      c.in_ok-read_body.ensures.source ∙ c.loop-index.invariant.1,
     )

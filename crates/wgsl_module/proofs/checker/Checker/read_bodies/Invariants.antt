@@ -1,5 +1,5 @@
 use Rattle.std.proofs.Common.{◌≡◌, drop}
-use Rattle.wgsl_module.specs.Noted.{Reading, reading, state}
+use Rattle.wgsl_module.specs.Noted.{Reading, reading, source, state}
 use Rattle.wgsl_module.specs.Runs.{AreBodies}
 use Rattle.wgsl_module.proofs.checker.Checker.read_bodies.Given as goal
 
@@ -8,4 +8,4 @@ abbrev pub invariant-loop-index : goal.invariant-loop-index
 invariant-loop-index l =
     ((r : Reading) → AreBodies l.tokens (drop l.index l.fn.self.declarations.items) (reading (state l.self)) r
     → AreBodies l.tokens l.fn.self.declarations.items (reading (state l.fn.self)) r) ×
-    ((state l.self).declarations ≡ (state l.fn.self).declarations)
+    (source (state l.self) ≡ source (state l.fn.self))

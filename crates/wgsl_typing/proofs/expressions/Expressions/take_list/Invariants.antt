@@ -1,6 +1,6 @@
 use Rattle.std.proofs.Common.{◌≡◌, ◌++◌, ◌+◌, length}
 use Rattle.wgsl_typing.specs.Stacks.{stack}
-use Rattle.wgsl_typing.specs.Templates.{below_list, in_list}
+use Rattle.wgsl_typing.specs.Taken.{below_list, in_list}
 use Rattle.wgsl_typing.proofs.expressions.Expressions.take_list.Given as goal
 
 -- the items that are taken and those that are left are those of the list, what stands below it stays, and there are as many turns as items
