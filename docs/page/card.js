@@ -7,33 +7,22 @@ import { problem } from "page/problems.js";
 
 const SHOWN_ERRORS = 10; // in a card
 const EAGER_CARDS = 3; // new ones that are filled at once, so that none is seen empty
-const contents = new WeakMap(); // of cards: a key, and how it is made
+const keys = new WeakMap(), contents = new WeakMap(); // by cards: what tells their contents apart, and how these are made
 
 // Other cards are filled when they come near to the window. What one had before stays until then if it is near, and goes if not.
 const cardsNear = new IntersectionObserver(measured("cards", (entries) => {
   for (const { isIntersecting, target } of entries) {
-    if (isIntersecting) fill(target);
-    else target.replaceChildren();
+    if (isIntersecting) cardsNear.unobserve(target);
+    target.replaceChildren(...(isIntersecting ? contents.get(target)() : []));
   }
   whenFilled();
 }), { rootMargin: "100%" });
 let whenFilled = () => {};
 
-/** Fills a card when it is near. One that is observed already is told of once more. */
-function observe(card) {
-  cardsNear.unobserve(card);
-  cardsNear.observe(card);
-}
-
-function fill(card) {
-  cardsNear.unobserve(card);
-  card.replaceChildren(...contents.get(card).make());
-}
-
 export const newCard = (name) => h("section", { className: "card struct", ariaLabel: `struct ${name}` });
 
 /** Whether a card shows what has this key, or will when it is near. */
-export const hasKey = (card, key) => contents.get(card)?.key === key;
+export const hasKey = (card, key) => keys.get(card) === key;
 
 /** Has cards show structs, and calls a function when those near to the window do. */
 export function fillCards(cards, whenDone) {
@@ -42,9 +31,11 @@ export function fillCards(cards, whenDone) {
   for (const [index, { card, key, struct, variables }] of others.entries()) {
     const isEager = index < EAGER_CARDS && !contents.has(card), height = 190 + 31 * rowCount(struct) + 29 * struct.members.length + 24 * variables.length;
     card.style.containIntrinsicBlockSize = `auto ${height}px`;
-    contents.set(card, { key, make: () => partsOf(struct, variables) });
-    if (isEager) fill(card);
-    else observe(card);
+    keys.set(card, key);
+    contents.set(card, () => partsOf(struct, variables));
+    cardsNear.unobserve(card); // so that it is told of once more
+    if (isEager) card.replaceChildren(...contents.get(card)());
+    else cardsNear.observe(card);
     isDone &&= isEager;
   }
   whenFilled = whenDone;

@@ -80,14 +80,9 @@ impl Scope {
         })
     }
 
-    /// `var name: ty = init;`, or without a type.
-    fn declare(
-        &mut self,
-        name: &'static str,
-        ty: Option<Type>,
-        init: &Expr,
-    ) -> Result<Type, Error> {
-        let given = self.value(init)?;
+    /// `var name: ty = x;`, or without a type.
+    fn declare(&mut self, name: &'static str, ty: Option<Type>, x: &Expr) -> Result<Type, Error> {
+        let given = self.value(x)?;
         let ty = ty.unwrap_or_else(|| given.concretize());
         if !given.is_convertible_to(&ty) {
             return Err(Error::Conversion(given, ty));
@@ -126,8 +121,7 @@ fn component(ty: &Type, name: &str) -> Result<Type, Error> {
             member.map(|member| member.ty.clone()).ok_or_else(missing)
         }
         Type::Vec(count, of) => {
-            let fits =
-                |letter| "xyzw".chars().take(usize::from(*count)).any(|known| known == letter);
+            let fits = |letter| "xyzw".chars().take(usize::from(*count)).any(|own| own == letter);
             match name.len() {
                 _ if !name.chars().all(fits) => Err(missing()),
                 1 => Ok((**of).clone()),

@@ -30,7 +30,7 @@ fn declare(what: &str, value: &Operand) -> Result<Operand, Refusal> {
 }
 
 /// `struct Light { power: f32, position: vec3f, colours: array<vec3f, 4> }`
-fn light() -> Type {
+fn light_type() -> Type {
     let vector = Type::vector(3, Type::F32);
     let colours = Type::array(Some(4), vector.clone());
     let members = [("power", Type::F32), ("position", vector), ("colours", colours)];
@@ -39,15 +39,14 @@ fn light() -> Type {
 
 fn main() -> Result<(), Box<dyn Error>> {
     let access = Uniform.default_access_mode();
-    let of_light = Operand::new(Type::Ref(Uniform, Box::new(light()), access));
-    let (power, position) =
-        (type_of_member(&of_light, "power")?, type_of_member(&of_light, "position")?);
+    let light = Operand::new(Type::Ref(Uniform, Box::new(light_type()), access));
+    let (power, position) = (type_of_member(&light, "power")?, type_of_member(&light, "position")?);
     let one = Operand::constant(Type::AbstractInt);
     let scaled = type_binary_op(Multiplication, &position, &power)?;
     let p = declare("var p = light.position * light.power", &scaled)?;
     let shifted = type_binary_op(ShiftLeft, &one, &Operand::constant(Type::U32))?;
     let i = declare("var i = 1 << 3u", &shifted)?;
-    let colour = type_of_index(&type_of_member(&of_light, "colours")?, &i)?;
+    let colour = type_of_index(&type_of_member(&light, "colours")?, &i)?;
     let c = declare("var c = light.colours[i].xy", &type_of_member(&colour, "xy")?)?;
     let x = type_of_member(&c, "x")?;
 
@@ -56,7 +55,7 @@ fn main() -> Result<(), Box<dyn Error>> {
     show_type("&c.x", address_of(&x));
     let ones = type_ctor("vec3", None, &[one.clone()])?;
     show_type("vec3(1) + c", type_binary_op(Addition, &ones, &c));
-    show_type("Light(1)", construct(&light(), &[one.clone()]));
+    show_type("Light(1)", construct(&light_type(), &[one.clone()]));
     let bits = type_builtin_fn("bitcast", Some(&Type::U32), &[i.clone()])?;
     show_type("bitcast<u32>(i)", bits.ok_or("no value"));
 

@@ -33,8 +33,7 @@ impl Checked {
     pub fn signature_at(&self, byte: usize) -> Option<Signature> {
         let (open, name) = self.call_around(byte)?;
         let arguments = self.divided(open).0;
-        let is_passed =
-            |of: &&Range<usize>| self.tokens.get(of.end).is_some_and(|end| end.at < byte);
+        let is_passed = |of: &&Range<usize>| self.tokens.get(of.end).is_some_and(|it| it.at < byte);
         let argument = arguments.iter().filter(is_passed).count();
         let word = self.between(name..name + 1);
         let known = self.names_at(self.tokens[name].at).into_iter().find(|name| name.text == word);

@@ -96,7 +96,9 @@ struct Extent {
 pub(super) fn types(module: &Module<'_>) -> BTreeMap<String, Type> {
     let mut extents: Vec<Option<Extent>> = Vec::new();
     for of in &module.structs {
-        extents.push(extent_of_struct(module, &extents, of));
+        let mut members = of.members.iter().map(|member| extent(module, &extents, member.ty));
+        let all = members.try_fold(Extent::LEAF, |all, member| Some(all.around(member?)));
+        extents.push(all);
     }
     let structs = module
         .in_text
@@ -116,35 +118,24 @@ pub(super) fn types(module: &Module<'_>) -> BTreeMap<String, Type> {
     found
 }
 
-fn extent_of_struct(
-    module: &Module<'_>,
-    extents: &[Option<Extent>],
-    of: &structure::Struct<'_>,
-) -> Option<Extent> {
-    let mut all = Extent { count: 1, depth: 1 };
-    for member in &of.members {
-        all = all.around(extent(module, extents, member.ty)?);
-    }
-    Some(all)
-}
-
 /// None if a count in it is an override's value.
 fn extent(module: &Module<'_>, extents: &[Option<Extent>], ty: MeasuredType) -> Option<Extent> {
-    let leaf = Extent { count: 1, depth: 1 };
     match ty.kind {
         TypeKind::Struct(index) => *extents.get(index)?,
         TypeKind::Array(_, Count::Override) | TypeKind::BindingArray(_, Count::Override) => None,
         TypeKind::Array(..) | TypeKind::BindingArray(..) | TypeKind::Pointer(..) => {
-            Some(leaf.around(extent(module, extents, inside(module, ty)?)?))
+            Some(Extent::LEAF.around(extent(module, extents, inside(module, ty)?)?))
         }
         TypeKind::Vector(..) | TypeKind::Matrix(..) | TypeKind::Atomic(_) => {
-            Some(leaf.around(leaf))
+            Some(Extent::LEAF.around(Extent::LEAF))
         }
-        _ => Some(leaf),
+        _ => Some(Extent::LEAF),
     }
 }
 
 impl Extent {
+    const LEAF: Extent = Extent { count: 1, depth: 1 };
+
     /// That of a type with one more type inside.
     fn around(self, inner: Extent) -> Extent {
         Extent {

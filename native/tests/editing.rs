@@ -47,8 +47,7 @@ fn types_are_inferred() {
         fn g(h: i32) { let i = h; var j = a; const k: i32 = 1; let l = &j; let m = foo; for (var n = 1u; n < 2; n++) { } }
         struct o { p: i32 }";
     let checked = check(text);
-    let inferred =
-        checked.names.iter().filter_map(|name| Some((&*name.text, name.inferred_type()?)));
+    let inferred = checked.names.iter().filter_map(|of| Some((&*of.text, of.inferred_type()?)));
     let inferred: Vec<String> = inferred.map(|(name, ty)| format!("{name}: {ty}")).collect();
     let expected = "a: AbstractInt, b: i32, c: vec3<f32>, i: i32, j: i32, l: ptr<function, i32, read_write>, n: u32";
     assert_eq!(inferred.join(", "), expected);

@@ -245,8 +245,7 @@ fn variant(refusal: &Refusal) -> String {
 #[test]
 fn misfits() {
     let s = Type::from(StructType::new("S", [("a", Type::F32), ("b", Type::U32)]));
-    let operands =
-        |texts: &str| types(texts).into_iter().map(Operand::constant).collect::<Vec<_>>();
+    let operands = |all: &str| types(all).into_iter().map(Operand::constant).collect::<Vec<_>>();
     for [asked, values, others, blamed] in rows("tables/misfits.tsv") {
         let of = operands(&values);
         let misfit = match &*asked {

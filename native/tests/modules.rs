@@ -47,8 +47,7 @@ fn faults_have_messages() {
         for [wanted, text] in rows(&format!("modules/{name}.txt")) {
             let faults = check(&text).faults;
             let found = placed(&text, &faults).into_iter();
-            let found: Vec<_> =
-                found.map(|(place, message)| format!("{place}: {message}")).collect();
+            let found: Vec<_> = found.map(|(at, message)| format!("{at}: {message}")).collect();
             assert_eq!(found.join(" | "), wanted, "{text}");
         }
     }

@@ -71,18 +71,14 @@ fn texel_formats_tell_their_channels() {
 
 #[test]
 fn textures_answer_their_queries() {
-    let sampled_types = [
-        (TextureType::Multisampled2D(SampledType::F32), None),
-        (TextureType::Multisampled2DArray(SampledType::F32), Some(SampledType::F32)),
-        (TextureType::Sampled2D(SampledType::I32), Some(SampledType::I32)),
-    ];
-    for (texture, sampled) in sampled_types {
-        assert_eq!(texture.sampled_type(), sampled, "{texture}");
-    }
+    use SampledType::{F32, I32, U32};
+    assert_eq!(TextureType::Multisampled2D(F32).sampled_type(), None);
+    assert_eq!(TextureType::Multisampled2DArray(F32).sampled_type(), Some(F32));
+    assert_eq!(TextureType::Sampled2D(I32).sampled_type(), Some(I32));
     let stored = TextureType::Storage3D(TexelFormat::R32Sint, AccessMode::Read);
     assert_eq!((stored.dimensions(), stored.is_arrayed()), (TextureDimensions::D3, false));
-    assert_eq!(stored.channel_type(), SampledType::I32);
-    let lines = TextureType::Sampled1DArray(SampledType::U32);
+    assert_eq!(stored.channel_type(), I32);
+    let lines = TextureType::Sampled1DArray(U32);
     assert_eq!((lines.dimensions(), lines.is_arrayed()), (TextureDimensions::D1, true));
     assert!(lines.is_sampled());
 }

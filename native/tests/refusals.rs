@@ -4,7 +4,6 @@ use crate::asked::{one_type, parameters, types};
 use crate::tables::rows;
 use wgsl_types_proved::builtin::{type_builtin_fn, typecheck_struct_ctor};
 use wgsl_types_proved::inst::LiteralInstance as Literal;
-use wgsl_types_proved::requests::answer;
 use wgsl_types_proved::syntax::{BinaryOperator::ShortCircuitOr, UnaryOperator::AddressOf};
 use wgsl_types_proved::CallSignature;
 use wgsl_types_proved::Error::{self, *};
@@ -77,12 +76,4 @@ fn structs_are_made_of_their_members() {
         };
         assert_eq!(found, wanted, "of `{args}`");
     }
-}
-
-#[test]
-fn components_are_counted_in_whole_numbers() {
-    let request = format!("ctor vec4 -{}", " vec 2 f32".repeat(130));
-    let refused = answer(&request).unwrap_err();
-    let message = "incorrect number of arguments to `vec4`, expected `4`, got `130`";
-    assert_eq!(refused.to_string(), message);
 }

@@ -34,8 +34,7 @@ fn place(range: &Json, text: &str) -> String {
 
 /// An answer in short: places with the words there, and of a long list the first items.
 fn shown(answer: &Json, text: &str) -> String {
-    let all =
-        |items: &[Json]| items.iter().map(|of| shown(of, text)).collect::<Vec<_>>().join("; ");
+    let all = |list: &[Json]| list.iter().map(|of| shown(of, text)).collect::<Vec<_>>().join("; ");
     match answer {
         Json::Text(value) => {
             let plain = value.replace("```wgsl\n", "").replace("\n```", "");

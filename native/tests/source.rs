@@ -79,8 +79,7 @@ fn address_spaces_hold_what_browsers_let_them_hold() {
 
 #[test]
 fn large_modules_need_more_room_than_text() {
-    let structs: String =
-        (0..2000).map(|index| format!("struct S{index}{{a:f32,b:u32}}")).collect();
+    let structs: String = (0..2000).map(|at| format!("struct S{at}{{a:f32,b:u32}}")).collect();
     let module = layouts(structs);
     assert_eq!(module.structs.len(), 2000);
     assert!(module.structs.iter().all(|of| of.size == 8));

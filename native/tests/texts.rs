@@ -56,9 +56,8 @@ fn sizes() {
         let found = format!("{} {}", or_none(ty.size_of()), or_none(ty.align_of()));
         expect(&format!("size {}", words(&ty)), found);
         if let Type::Struct(of) = &ty {
-            let texts =
-                |all: Vec<u32>| all.iter().map(u32::to_string).collect::<Vec<_>>().join(" ");
-            let offsets = of.offsets().map(texts);
+            let text = |all: Vec<u32>| all.iter().map(u32::to_string).collect::<Vec<_>>().join(" ");
+            let offsets = of.offsets().map(text);
             expect(&format!("offsets {}", words(&ty)), or_none(offsets));
         }
     }

@@ -118,10 +118,9 @@ fn types_answer_as_the_table_says() {
 
 #[test]
 fn strange_types_equal_themselves_alone() {
-    let strange: Vec<Type> =
-        rows("tables/strange.tsv").iter().map(|[text]| one_type(text)).collect();
-    for (index, one) in strange.iter().enumerate() {
-        for (other_index, other) in strange.iter().enumerate() {
+    let all: Vec<Type> = rows("tables/strange.tsv").iter().map(|[text]| one_type(text)).collect();
+    for (index, one) in all.iter().enumerate() {
+        for (other_index, other) in all.iter().enumerate() {
             assert_eq!(one == other, index == other_index, "{one} and {other}");
         }
         copied(one.clone());

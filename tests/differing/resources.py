@@ -7,7 +7,6 @@ TABLE = "tables/differences.tsv"
 SAMPLED, DEPTH, STORED, OF_NAGA = (listed(TABLE, kind) for kind in ("sampled", "depth", "stored", "naga"))
 FORMATS, FEW_FORMATS = listed(TABLE, "format"), listed(TABLE, "few formats")
 ACCESSES = ["read", "write", "read_write"]
-SAMPLERS = ["sampler", "sampler_comparison"]
 # What an argument of a right call is exchanged for.
 OTHERS = listed(TABLE, "other")
 

@@ -57,8 +57,7 @@ def compare_programs():
     folder = os.path.join(TOP, "tests")
     there = {f"tests/{name}" for name in os.listdir(folder) if is_program(os.path.join(folder, name))}
     said = re.findall(r"^### `(tests/\w+)`$", read("docs", "TESTS.md"), re.MULTILINE)
-    faults = [f"docs/TESTS.md: {sorted(set(said) ^ there)} is there or has a heading, not both"] if set(said) != there else []
-    return faults
+    return [f"docs/TESTS.md: {sorted(set(said) ^ there)} is there or has a heading, not both"] if set(said) != there else []
 
 
 def is_program(path):

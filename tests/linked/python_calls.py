@@ -3,9 +3,10 @@ import random
 import re
 
 import wgsl
-from linked.python_raised import expect, raised
+from linked.python_raised import raised
 from overloads.calls import UNIVERSE, Calls, request
 from overloads.facts import read_facts
+from programs import expect
 from spelling import SCALARS, STRUCTS
 
 CALLED, PAIRS, LISTS = 20000, 5000, 2000

@@ -6,7 +6,8 @@ import re
 import traceback
 
 import wgsl
-from linked.python_raised import expect, raised
+from linked.python_raised import raised
+from programs import expect
 from table import listed, texts
 
 # Half of a surrogate pair, which no table can have.

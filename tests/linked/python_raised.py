@@ -1,9 +1,5 @@
-"""What calls of the Python package raise, and what they answer."""
-
-
-def expect(condition, what):
-    if not condition:
-        raise SystemExit(f"link: in Python {what}")
+"""What calls of the Python package raise."""
+from programs import expect
 
 
 def raised(kind, ask, given, **named):

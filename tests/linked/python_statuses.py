@@ -2,7 +2,8 @@
 from concurrent.futures import ThreadPoolExecutor
 
 import wgsl
-from linked.python_raised import expect, raised
+from linked.python_raised import raised
+from programs import expect
 
 TURNS = 200
 

@@ -4,6 +4,7 @@ import sys
 from concurrent.futures import ThreadPoolExecutor
 
 import wgsl
+from programs import expect
 
 THREADS = 4
 
@@ -30,14 +31,12 @@ def main():
     requests = sys.stdin.buffer.read().decode(errors="surrogateescape").split("\n")
     requests += [f"size struct {name} {{ a: f32 }}" for name in SURROGATES]
     wanted = [reply(request) for request in requests]
-    if any(wanted[-len(SURROGATES):]):
-        sys.exit("link: in Python a lone surrogate is read")
+    expect(not any(wanted[-len(SURROGATES):]), "a lone surrogate is read")
     sys.setswitchinterval(1e-5)
     starts = [thread * len(requests) // THREADS for thread in range(THREADS)]
     with ThreadPoolExecutor(THREADS) as pool:
         wrong = sum(pool.map(lambda start: different(requests, wanted, start), starts), [])
-    if wrong:
-        sys.exit(f"link: in Python {len(wrong)} answers differ beside a thread, as that to {wrong[0]!r:.200}")
+    expect(not wrong, f"{len(wrong)} answers differ beside a thread, as that to {wrong[:1]!r:.200}")
     print(f"{len(requests)} requests in each of {THREADS} threads")
 
 

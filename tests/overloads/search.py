@@ -61,6 +61,5 @@ class Search:
             for i, (_, answer, ranks) in enumerate(taking)
             if is_preferred(ranks, [other for j, (_, _, other) in enumerate(taking) if j != i])
         ]
-        if len(preferred) != 1:
-            raise AssertionError(f"{name}{operands}: {len(preferred)} preferred candidates")
+        assert len(preferred) == 1, f"{name}{operands}: {len(preferred)} preferred candidates"
         return preferred[0]

@@ -240,8 +240,7 @@ fn members_of(module: &Module, structure: &Name) -> Json {
     let laid_out: Vec<_> = module.laid_out().collect();
     let members = module.checked().members_of(structure).into_iter().map(|member| {
         let place = laid_out.iter().find(|(name, ..)| *name == member.name);
-        let place =
-            place.map(|(.., member)| format!(", offset {}, size {}", member.offset, member.size));
+        let place = place.map(|(.., of)| format!(", offset {}, size {}", of.offset, of.size));
         let detail = format!("{}{}", &module.text[member.ty], place.unwrap_or_default());
         item(&module.text[member.name], ItemKind::Field, &detail)
     });

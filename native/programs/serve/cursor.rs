@@ -91,8 +91,7 @@ impl Cursor {
     /// Whether a `{` belongs to a `switch`.
     fn is_of_switch(&self, open: usize) -> bool {
         let front = (0..open).rev().map(|index| self.kind(index));
-        let mut front =
-            front.take_while(|kind| !matches!(kind, Semicolon | OpenCurly | CloseCurly));
+        let mut front = front.take_while(|of| !matches!(of, Semicolon | OpenCurly | CloseCurly));
         front.any(|kind| kind == Switch)
     }
 }

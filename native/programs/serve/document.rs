@@ -100,8 +100,7 @@ impl Module {
     /// The names that the module itself declares, in the order of the text.
     pub fn declared(&self) -> Vec<(&Name, Range<usize>)> {
         let names = self.checked().names_at(0).into_iter();
-        let mut names: Vec<_> =
-            names.filter_map(|name| Some((name, name.bytes.clone()?))).collect();
+        let mut names: Vec<_> = names.filter_map(|of| Some((of, of.bytes.clone()?))).collect();
         names.sort_by_key(|(_, bytes)| bytes.start);
         names
     }
@@ -132,8 +131,7 @@ impl Module {
     /// The bytes of the declaration of the module that has its name there, with its attributes and its block.
     pub fn declaration(&self, name: &Range<usize>) -> Range<usize> {
         let at = self.index(name.start);
-        let is_end =
-            |index: &usize| matches!(self.kind(*index), Kind::Semicolon | Kind::CloseCurly);
+        let is_end = |at: &usize| matches!(self.kind(*at), Kind::Semicolon | Kind::CloseCurly);
         let start = (0..at).rev().find(is_end).map_or(0, |index| index + 1);
         let mut depth = 0;
         let is_last = |token: &&Token| {

@@ -171,11 +171,7 @@ impl Reader<'_> {
     }
 
     /// Reads items with commas between, in the brackets of which the first one is next.
-    fn items<Item>(
-        &mut self,
-        close: u8,
-        item: impl Fn(&mut Self) -> Option<Item>,
-    ) -> Option<Vec<Item>> {
+    fn items<T>(&mut self, close: u8, item: impl Fn(&mut Self) -> Option<T>) -> Option<Vec<T>> {
         self.at += 1;
         self.skip_blanks();
         let mut items = Vec::new();
