@@ -17,20 +17,17 @@ pub record Shaped (n : Name) (s : Shape) (k : Kind) : Type 0 where
 number_shape : (t : WgslType) → IsScalarOrVectorOf Number t → Admits (or_vector a_number) t
 number_shape (scalar s) h = h
 number_shape (within (vec_of n) (scalar s)) h = h
-number_shape (within (vec_of n) t) h = absurd h
-number_shape t h = absurd h
+number_shape _ h = absurd h
 
 shape_number : (t : WgslType) → Admits (or_vector a_number) t → IsScalarOrVectorOf Number t
 shape_number (scalar s) h = h
 shape_number (within (vec_of n) (scalar s)) h = h
-shape_number (within (vec_of n) t) h = absurd h
-shape_number t h = absurd h
+shape_number _ h = absurd h
 
 pub float_shape : (t : WgslType) → IsScalarOrVectorOf Float t → Admits (or_vector a_float) t
 float_shape (scalar s) h = h
 float_shape (within (vec_of n) (scalar s)) h = h
-float_shape (within (vec_of n) t) h = absurd h
-float_shape t h = absurd h
+float_shape _ h = absurd h
 
 pub float_scalar : (t : WgslType) → Admits a_float t → IsScalarOf Float t
 float_scalar (scalar s) h = h

@@ -186,14 +186,11 @@ float_step (base b) h = float_base b h
   where
     float_base : {t u : WgslType} {w : ℕ} → BaseStep t u w → Admits a_float u → Admits a_float t ⊎ (t ≡ scalar AbstractInt) × (u ≡ scalar AbstractFloat)
     float_base int_to_float h = inr (refl, refl)
-    float_base int_to_i32 h = absurd h
-    float_base int_to_u32 h = absurd h
-    float_base int_to_i64 h = absurd h
-    float_base int_to_u64 h = absurd h
     float_base float_to_f32 h = inl tt
     float_base float_to_f16 h = inl tt
     float_base (result_to_f32 m s) h = inl (admits_result a_float m s precision.F32 precision.Abstract h)
     float_base (result_to_f16 m s) h = inl (admits_result a_float m s precision.F16 precision.Abstract h)
+    float_base _ h = absurd h
 float_step (inside l s) h = absurd h
 
 -- a type that converts to a float is a float or an abstract integer

@@ -126,8 +126,7 @@ admits_number t h = absurd h
 pub is_number : (t : WgslType) → Admits (or_vector a_number) t → IsNumericOrVector t
 is_number (scalar s) h = h
 is_number (within (vec_of n) (scalar s)) h = h
-is_number (within (vec_of n) t) h = absurd h
-is_number t h = absurd h
+is_number _ h = absurd h
 
 pub admits_float_or_vector : (t : WgslType) → IsFloatOrVector t → Admits (or_vector a_float) t
 admits_float_or_vector (scalar s) h = h
@@ -137,8 +136,7 @@ admits_float_or_vector t h = absurd h
 pub is_float_or_vector : (t : WgslType) → Admits (or_vector a_float) t → IsFloatOrVector t
 is_float_or_vector (scalar s) h = h
 is_float_or_vector (within (vec_of n) (scalar s)) h = h
-is_float_or_vector (within (vec_of n) t) h = absurd h
-is_float_or_vector t h = absurd h
+is_float_or_vector _ h = absurd h
 
 admits_float_vector : (t : WgslType) → IsFloatVector t → Admits (vector_of a_float) t
 admits_float_vector (within (vec_of n) (scalar s)) h = h
