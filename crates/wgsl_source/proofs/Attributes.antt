@@ -2,8 +2,8 @@
 use Rattle.std.proofs.Common.{◌≡◌, ◌≢◌, ℕ, List, [], ◌∷◌, ◌++◌, Option, Some, None, drop, take, ap, refl, sym, subst, ◌∙◌, append-nil, pos}
 use Rattle.std.specs.Option.{option_or}
 use Rattle.wgsl_source.proofs.Common.{Event, attribute_len, Text}
-use Rattle.wgsl_source.specs.Attributes.{AreRead, Attribute, InFront, IsNumberOf, IsSaid, IsValueOf, Say, argument_if, attribute_of, last_said, no_more, one_more, stage_by}
-use Rattle.wgsl_source.specs.internal.Others.{Adds, IsArgument, SameValues, Sets}
+use Rattle.wgsl_source.specs.Attributes.{AreRead, Attribute, InFront, IsArgument, IsNumberOf, IsSaid, IsValueOf, Say, argument_if, attribute_of, last_said, no_more, one_more, stage_by}
+use Rattle.wgsl_source.specs.internal.Others.{Adds, SameValues, Sets}
 use Rattle.wgsl_source.specs.declared.attribute.Attributes.{Attributes}
 use Rattle.wgsl_source.specs.declared.attribute.Name.{Name}
 use Rattle.wgsl_source.specs.declared.value.Value.{Value}

@@ -29,7 +29,7 @@ pub use Rattle.wgsl_source.specs.declared.structure.Struct.{Struct}
 pub use Rattle.wgsl_source.specs.declared.structure.Written.{Written}
 pub use Rattle.wgsl_source.specs.declared.text.Text.{Text}
 pub use Rattle.wgsl_source.specs.declared.types.Types.{Types}
-pub use Rattle.wgsl_source.specs.internal.Items.{behind_event, behind_events, HasAccess, item_names, NamesAccess, with_last}
+pub use Rattle.wgsl_source.specs.internal.Items.{HasAccess, item_names, NamesAccess}
 pub use Rattle.wgsl_source.specs.internal.Others.{AddsOthers, misread}
 pub use Rattle.wgsl_source.specs.internal.Read.{AreAll, AreAllMeant, AreListed, declaration, IsDeclaration, IsDeclaredAt, IsFrom, kept_listed, KnownAll, KnownAt, left_listed, Means, names_of, no_other, none_listed, Nothing}
 pub use Rattle.wgsl_spelling.specs.Words.{word}

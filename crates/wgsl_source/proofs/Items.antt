@@ -1,15 +1,34 @@
 -- The names among items, while the events of a template list are read.
-use Rattle.std.proofs.Common.{◌≡◌, ◌≢◌, ℕ, ◌+◌, ◌<◌, List, [], ◌∷◌, ◌++◌, length, get_or, drop, false, IfOk, Result, Ok, Err, Option, Some, None, option_map, ap, refl, subst, sym, ◌∙◌, append_assoc, append-nil}
-use Rattle.wgsl_source.proofs.Common.{at_drop_more, Event, word, token_before, AreSaid, Say, a_space, both, names_only, with_name, Text}
+use Rattle.std.proofs.Common.{◌≡◌, ℕ, List, [], ◌∷◌, ◌++◌, Bool, true, false, IfOk, Result, Ok, Err, Option, Some, None, option_map, ap, refl, subst, sym, ◌∙◌, append_assoc, append-nil}
+use Rattle.wgsl_source.proofs.Common.{Event, word, token_before, AreSaid, Say, a_space, both, names_only, with_name, Text}
 use Rattle.wgsl_reader.specs.declared.mark.Mark.{Mark}
 use Rattle.wgsl_reader.specs.declared.mark.Mark.TheVariants as m
 use Rattle.wgsl_reader.specs.declared.token.Token.{Token}
 use Rattle.wgsl_syntax.specs.declared.address.AccessMode.{AccessMode}
 use Rattle.wgsl_syntax.specs.declared.address.AddressSpace.{AddressSpace}
-use Rattle.wgsl_source.specs.internal.Items.{HasAccess, NamesSpace, behind_event, behind_events, is_name, item_names, with_content, with_last}
+use Rattle.wgsl_source.specs.WrittenTypes.{Environment, IsListedBy, Step, Steps, item}
+use Rattle.wgsl_source.specs.internal.Items.{HasAccess, NamesSpace, item_names, with_content}
 use Rattle.wgsl_source.specs.declared.item.Content.{Content}
 use Rattle.wgsl_source.specs.declared.item.Content.TheVariants as content
 use Rattle.wgsl_source.specs.declared.item.Item.{Item}
+
+abbrev is_name : Content → Bool
+is_name content.Name = true
+is_name other = false
+
+abbrev with_last : Token → Option (List Token) → Option (List Token)
+with_last token names = option_map (λ ts. ts ++ token ∷ []) names
+
+-- the names behind an event
+abbrev behind_event : Mark → Token → Option (List Token) → Option (List Token)
+behind_event m.Name token names = with_last token names
+behind_event m.Value token names = names
+behind_event other token names = None
+
+-- the names behind all events
+abbrev behind_events : Text → List Event → Option (List Token) → Option (List Token)
+behind_events t [] names = names
+behind_events t (event ∷ events) names = behind_events t events (behind_event event.mark (token_before t event.at) names)
 
 -- an item is added
 
@@ -18,7 +37,7 @@ last_behind content.Name a b (Some ts) = refl
 last_behind content.Name a b None = refl
 last_behind other a b names = refl
 
-pub name_pushed : (items : List Item) (i : Item) → i.content ≡ content.Name → item_names (items ++ i ∷ []) ≡ with_last i.token (item_names items)
+name_pushed : (items : List Item) (i : Item) → i.content ≡ content.Name → item_names (items ++ i ∷ []) ≡ with_last i.token (item_names items)
 name_pushed [] i is = ap (λ c. with_content c i.token (Some [])) is
 name_pushed (x ∷ items) i is = ap (with_content x.content x.token) (name_pushed items i is) ∙ last_behind x.content x.token i.token (item_names items)
 
@@ -30,7 +49,7 @@ no_name : (c : Content) (a : Token) (names : Option (List Token)) → is_name c 
 no_name content.Name a names isnt = cc
 no_name other a names isnt = refl
 
-pub other_pushed : (items : List Item) (i : Item) → is_name i.content ≡ false → item_names (items ++ i ∷ []) ≡ None
+other_pushed : (items : List Item) (i : Item) → is_name i.content ≡ false → item_names (items ++ i ∷ []) ≡ None
 other_pushed [] i isnt = no_name i.content i.token (Some []) isnt
 other_pushed (x ∷ items) i isnt = ap (with_content x.content x.token) (other_pushed items i isnt) ∙ none_behind x.content x.token
 
@@ -56,7 +75,7 @@ module _ (t : Text) where
   by_mark events all us m.Value token = all us
   by_mark events all us mark token = none_left events
 
-  pub names_behind : (events : List Event) (us : List Token) → behind_events t events (Some us) ≡ option_map (λ ts. us ++ ts) (names_only t events)
+  names_behind : (events : List Event) (us : List Token) → behind_events t events (Some us) ≡ option_map (λ ts. us ++ ts) (names_only t events)
   names_behind [] us = ap Some (sym (append-nil us))
   names_behind (event ∷ events) us = by_mark events (names_behind events) us event.mark (token_before t event.at)
 
@@ -64,17 +83,31 @@ module _ (t : Text) where
   only_names (Some ts) = refl
   only_names None = refl
 
-  pub all_names : (events : List Event) (old new : List Item) → old ≡ [] → item_names new ≡ behind_events t events (item_names old) → item_names new ≡ names_only t events
-  all_names events old new none is = is ∙ (ap (λ items. behind_events t events (item_names items)) none ∙ (names_behind events [] ∙ only_names (names_only t events)))
+  -- what steps do to names
 
-  pub one_further : (events : List Event) (i : ℕ) (event : Event) (names now : Option (List Token)) → i < length events → now ≡ behind_event (get_or events i event).mark (token_before t (get_or events i event).at) names
-      → behind_events t (drop (i + 1) events) now ≡ behind_events t (drop i events) names
-  one_further events i event names now within is = ap (behind_events t (drop (i + 1) events)) is ∙ sym (at_drop_more (λ es. behind_events t es names) events i event within)
+  listed_no_name : (e : Environment) (name : List ℕ) (items : List Item) (c : Content) → IsListedBy t e name items c → is_name c ≡ false
+  listed_no_name e name items content.Name h = absurd h
+  listed_no_name e name items other h = refl
 
-pub no_event : (mark : Mark) (token : Token) (names : Option (List Token)) → mark ≢ m.Name → mark ≢ m.Value → behind_event mark token names ≡ None
-no_event m.Name token names isnt other = absurd (isnt refl)
-no_event m.Value token names isnt other = absurd (other refl)
-no_event mark token names isnt other = refl
+  step_names : (e : Environment) (mark : Mark) (token : Token) (items new : List Item) → Step t e mark token items new → item_names new ≡ behind_event mark token (item_names items)
+  step_names e m.Name token items new h = ap item_names h ∙ name_pushed items (item token content.Name) refl
+  step_names e m.Value token items new h = ap item_names h
+  step_names e m.Literal token items new h = ap item_names h.2 ∙ other_pushed items (item token (content.Value h.0)) refl
+  step_names e m.Template token items new h =
+      ap item_names h.replaced ∙ other_pushed h.front (item h.name.token h.content) (listed_no_name e (word t.text.now h.name.token) h.listed h.content h.is)
+  step_names e m.OpenTemplate token items new h = ap item_names h ∙ other_pushed items (item token (content.Sign token.kind)) refl
+  step_names e m.Operator token items new h = ap item_names h ∙ other_pushed items (item token (content.Sign token.kind)) refl
+  step_names e m.Open token items new h = ap item_names h ∙ other_pushed items (item token (content.Sign token.kind)) refl
+  step_names e m.OpenElement token items new h = ap item_names h ∙ other_pushed items (item token (content.Sign token.kind)) refl
+  step_names e other token items new h = ap item_names h.replaced ∙ other_pushed h.front (item h.token (content.Value h.value)) refl
+
+  all_behind : (e : Environment) (events : List Event) (items new : List Item) → Steps t e events items new → item_names new ≡ behind_events t events (item_names items)
+  all_behind e [] items new h = ap item_names h
+  all_behind e (event ∷ events) items new h = all_behind e events h.0 new h.2 ∙ ap (behind_events t events) (step_names e event.mark (token_before t event.at) items h.0 h.1)
+
+  pub all_names : (e : Environment) (events : List Event) (old new : List Item) → old ≡ [] → Steps t e events old new → item_names new ≡ names_only t events
+  all_names e events old new none steps =
+      all_behind e events old new steps ∙ (ap (λ items. behind_events t events (item_names items)) none ∙ (names_behind events [] ∙ only_names (names_only t events)))
 
 -- an address space and an access mode are said
 

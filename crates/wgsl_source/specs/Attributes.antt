@@ -4,6 +4,8 @@ use Rattle.std.specs.Option.{option_or}
 use denote.Enum.Bare.{sameb}
 use Rattle.wgsl_constants.specs.Conversions.{number}
 use Rattle.wgsl_constants.specs.Literals.{integer_of}
+use Rattle.wgsl_constants.specs.declared.constant.Constant.{Constant}
+use Rattle.wgsl_constants.specs.declared.constant.Constant.TheVariants as constant
 use Rattle.wgsl_constants.specs.declared.integer.Integer.{Integer}
 use Rattle.wgsl_reader.specs.declared.mark.Mark.{Mark}
 use Rattle.wgsl_reader.specs.declared.mark.Mark.TheVariants as m
@@ -19,6 +21,8 @@ use Rattle.wgsl_source.specs.declared.attribute.Name.TheVariants as name
 use Rattle.wgsl_source.specs.declared.entry.Stage.{Stage}
 use Rattle.wgsl_source.specs.declared.entry.Stage.TheVariants as stage
 use Rattle.wgsl_source.specs.declared.text.Text.{Text}
+use Rattle.wgsl_source.specs.declared.value.Value.{Value}
+use Rattle.wgsl_source.specs.declared.value.Value.TheVariants as value
 
 -- the attributes by their names
 abbrev pub attribute_names : List (Name × List ℕ)
@@ -87,6 +91,16 @@ stage_named other = None
 
 abbrev pub stage_by : Attribute → Option Stage
 stage_by a = stage_named a.name
+
+-- a constant that is an integer is that of the literal
+abbrev pub IsLiteral : List ℕ → Constant → Type 0
+IsLiteral text (constant.Integer i) = integer_of text ≡ Some i
+IsLiteral text other = Unit {0}
+
+-- the value of an argument, if that is one literal
+abbrev pub IsArgument : Option (List ℕ) → Value → Type 0
+IsArgument (Some text) (value.Known c) = IsLiteral text c
+IsArgument text other = Unit {0}
 
 -- an argument gives a number: a literal its value, `0x10u` 16. Which number another expression gives isn't said.
 abbrev pub IsValueOf : Option (List ℕ) → ℕ → Type 0

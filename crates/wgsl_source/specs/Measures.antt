@@ -28,10 +28,9 @@ known_count Override = None
 abbrev pub IsStrideOf : MeasuredType → ℕ → Type 0
 IsStrideOf element = IsStride (IsValue element.size) (IsValue element.align)
 
--- an array of these elements, whose type is among those of the module at the array's index
-pub record IsArrayAmong (elements : List MeasuredType) (element : MeasuredType) (t : MeasuredType) : Type 0 where
+-- an array of that many elements, whose type is among those of the module at the array's index
+pub record IsArrayAmong (elements : List MeasuredType) (element : MeasuredType) (count : Count) (t : MeasuredType) : Type 0 where
   pub index : ℕ
-  pub count : Count
   pub kind : t.kind ≡ kind.Array index count
   pub there : slice_get elements index ≡ Some element
   pub measure : IsMeasure (IsArraySize (known_count count) (IsStrideOf element)) (IsValue element.align) t

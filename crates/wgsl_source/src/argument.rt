@@ -1,7 +1,6 @@
 // The arguments of attributes.
 ghost use Rattle.std.specs.Prelude.{◌≡◌, IfOk};
-ghost use Rattle.wgsl_source.specs.Attributes.{IsValueOf, is_literal, literal_in, literal_token};
-ghost use Rattle.wgsl_source.specs.internal.Others.{IsArgument};
+ghost use Rattle.wgsl_source.specs.Attributes.{IsArgument, IsValueOf, is_literal, literal_in, literal_token};
 
 use crate::entry::WorkgroupExtent;
 use crate::fault::{Cause, Stop};

@@ -1,4 +1,6 @@
 // What is read of a type or a value and isn't yet part of a larger one.
+ghost use Rattle.std.specs.Prelude.{◌≡◌, ◌-◌, ◌<◌, IsTrue, Some, slice_get};
+ghost use Rattle.wgsl_source.specs.declared.item.Item.{Item as of_item};
 
 use crate::fault::{Cause, Stop};
 use crate::measured::MeasuredType;
@@ -41,7 +43,9 @@ impl Item {
         Stop::Elsewhere(self.token.at)
     }
 
-    fn is_sign(self, sign: Kind) -> bool {
+    fn is_sign(self, sign: Kind) -> bool
+        ensures { IsTrue result → self.content ≡ Content.Sign sign }
+    {
         match self.content {
             Content::Sign(kind) => kind == sign,
             _ => false,
@@ -50,7 +54,9 @@ impl Item {
 }
 
 /// The index behind the last of these signs.
-pub fn behind_sign(items: &[Item], sign: Kind) -> usize {
+pub fn behind_sign(items: &[Item], sign: Kind) -> usize
+    ensures { 0 < result → (it : of_item) × (slice_get items.now (result - 1) ≡ Some it) × (it.content ≡ Content.Sign sign) }
+{
     let mut at = items.len();
     while at > 0 {
         if items[at - 1].is_sign(sign) {
@@ -59,11 +65,4 @@ pub fn behind_sign(items: &[Item], sign: Kind) -> usize {
         at -= 1;
     }
     0
-}
-
-/// Takes items away from the end up to an index.
-pub fn cut(items: &mut Vec<Item>, len: usize) {
-    while items.len() > len {
-        items.pop();
-    }
 }

@@ -14,6 +14,7 @@ pub mod fault;
 mod initialized;
 mod item;
 pub mod laws;
+mod layers;
 mod leaf;
 mod listed;
 mod literal;

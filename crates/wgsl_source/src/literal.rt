@@ -1,6 +1,6 @@
 // Numbers, as they are written.
 ghost use Rattle.std.specs.Prelude.{IfOk};
-ghost use Rattle.wgsl_source.specs.internal.Others.{IsLiteral};
+ghost use Rattle.wgsl_source.specs.Attributes.{IsLiteral};
 
 use crate::fault::Cause;
 use wgsl_constants::constant::Constant;

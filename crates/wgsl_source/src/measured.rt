@@ -1,5 +1,5 @@
 // Types of a module, each with its size and alignment.
-ghost use Rattle.std.specs.Prelude.{◌≡◌, ◌↔◌, IsTrue, Some};
+ghost use Rattle.std.specs.Prelude.{◌≡◌, ◌↔◌, IfSome, IsTrue, Some};
 ghost use Rattle.wgsl_syntax.specs.declared.rules.RuleSet.TheVariants.{Standard};
 ghost use Rattle.wgsl_rules.specs.types.Types.{atomic, mat, scalar as scalar_type, vec};
 ghost use Rattle.wgsl_rules.specs.layout.Layout.{HasAlignmentBy, IsArraySize, IsAtomicSize, IsExactly, IsScalarSize, IsTimes};
@@ -122,7 +122,8 @@ impl MeasuredType {
 
     /// An atomic of this scalar.
     pub fn atomic(scalar: Scalar) -> MeasuredType
-        ensures { IsMeasureOf (atomic (scalar_type scalar)) result }
+        ensures kind { result.kind ≡ TypeKind.Atomic scalar }
+        ensures measure { IsMeasureOf (atomic (scalar_type scalar)) result }
     {
         let size = atomic_size(scalar);
         MeasuredType::leaf(TypeKind::Atomic(scalar), size, size)
@@ -166,7 +167,9 @@ impl MeasuredType {
     }
 
     /// The scalar, if the type is one.
-    pub fn as_scalar(&self) -> Option<Scalar> {
+    pub fn as_scalar(&self) -> Option<Scalar>
+        ensures { IfSome result (λ scalar. self.now.kind ≡ TypeKind.Scalar scalar) }
+    {
         match self.kind {
             TypeKind::Scalar(scalar) => Some(scalar),
             _ => None,

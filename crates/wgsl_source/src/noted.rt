@@ -1,15 +1,14 @@
 // What the events of a type or a value say.
-ghost use Rattle.std.specs.Prelude.{◌≡◌, ◌++◌, [], ◌∷◌, IfOk, None, OnOk, Some, false};
+ghost use Rattle.std.specs.Prelude.{◌≡◌, suc, ◌++◌, [], ◌∷◌, IfOk, IsErr, OnOk, Some, drop, slice_get};
 ghost use Rattle.wgsl_spelling.specs.Words.{word};
 ghost use Rattle.wgsl_source.specs.Declarations.{first_count, token_before};
 ghost use Rattle.wgsl_source.specs.Members.{Grows};
-ghost use Rattle.wgsl_source.specs.WrittenTypes.{HasType, environment};
+ghost use Rattle.wgsl_source.specs.Attributes.{IsArgument};
+ghost use Rattle.wgsl_source.specs.WrittenTypes.{BecomesValue, ClosesList, HasType, IsValueSaid, Step, Steps, environment, item, meaning_of};
 ghost use Rattle.wgsl_source.specs.declared.item.Content.TheVariants.{Name};
-ghost use Rattle.wgsl_source.specs.internal.Others.{IsArgument};
-ghost use Rattle.wgsl_source.specs.internal.Items.{behind_event, behind_events, is_name, item_names, with_last};
 
 use crate::fault::{Cause, Expected, Named, Stop};
-use crate::item::{Content, Item, behind_sign, cut};
+use crate::item::{Content, Item, behind_sign};
 use crate::literal::value_of_literal;
 use crate::measured::MeasuredType;
 use crate::scope::{Meaning, Scope};
@@ -29,7 +28,7 @@ impl<'t> Scope<'t> {
     {
         let mut items = Vec::new(self.alloc);
         self.read_all(types, &mut items, events)?;
-        let item = self.pop(&mut items)?;
+        let item = self.only(&items)?;
         self.type_of(types, item)
     }
 
@@ -67,7 +66,7 @@ impl<'t> Scope<'t> {
         events: &[Event],
     ) -> Result<(), Stop>
         ensures grows { Grows types.old types.new }
-        ensures names { OnOk result (item_names items.new.items ≡ behind_events self.now.text events.now (item_names items.old.items)) }
+        ensures steps { OnOk result (Steps self.now.text (environment self.now types.new) events.now items.old.items items.new.items) }
     {
         for event in events {
             self.step(types, items, *event)?;
@@ -77,8 +76,7 @@ impl<'t> Scope<'t> {
 
     fn step(&self, types: &mut Types, items: &mut Vec<Item>, event: Event) -> Result<(), Stop>
         ensures grows { Grows types.old types.new }
-        ensures names { OnOk result (item_names items.new.items
-            ≡ behind_event event.mark (token_before self.now.text event.at) (item_names items.old.items)) }
+        ensures step { OnOk result (Step self.now.text (environment self.now types.new) event.mark (token_before self.now.text event.at) items.old.items items.new.items) }
     {
         let token = self.text.token_before(event.at);
         match event.mark {
@@ -88,7 +86,7 @@ impl<'t> Scope<'t> {
         }
     }
 
-    /// Reads an event of another kind than a name.
+    /// Reads an event of another kind than a name or the end of one that is a value.
     fn step_further(
         &self,
         types: &mut Types,
@@ -97,7 +95,7 @@ impl<'t> Scope<'t> {
         token: Token,
     ) -> Result<(), Stop>
         ensures grows { Grows types.old types.new }
-        ensures no_name { OnOk result (item_names items.new.items ≡ None) }
+        ensures step { OnOk result (Step self.now.text (environment self.now types.new) mark token items.old.items items.new.items) }
     {
         match mark {
             Mark::OpenTemplate | Mark::Operator | Mark::Open | Mark::OpenElement => {
@@ -118,6 +116,16 @@ impl<'t> Scope<'t> {
         }
     }
 
+    /// The only item.
+    fn only(&self, items: &[Item]) -> Result<Item, Stop>
+        ensures { IfOk result (λ item. items.now ≡ item ∷ []) }
+    {
+        match items {
+            [item] => Ok(*item),
+            _ => Err(Stop::at(self.text.text.len(), Cause::NotInteger)),
+        }
+    }
+
     /// Takes the last item.
     fn pop(&self, items: &mut Vec<Item>) -> Result<Item, Stop>
         ensures { IfOk result (λ item. items.old.items ≡ items.new.items ++ item ∷ []) }
@@ -131,29 +139,31 @@ impl<'t> Scope<'t> {
     /// Ends a template list.
     fn close_list(&self, types: &mut Types, items: &mut Vec<Item>, token: Token) -> Result<(), Stop>
         ensures grows { Grows types.old types.new }
-        ensures no_name { OnOk result (item_names items.new.items ≡ None) }
+        ensures closed { OnOk result (ClosesList self.now.text (environment self.now types.new) items.old.items items.new.items) }
     {
-        let first = behind_sign(items, Kind::OpenTemplate);
-        let name = callee(items, first, token)?;
-        let content = self.listed(types, name, behind(items, first))?;
-        cut(items, first.saturating_sub(2));
+        let all = items.as_slice();
+        let first = behind_sign(all, Kind::OpenTemplate);
+        let (at, name) = callee(all, first, token)?;
+        let content = self.listed(types, name, behind(all, first))?;
+        items.truncate(at);
         push(items, name.token, content)
     }
 
     /// Ends a call.
     fn close_call(&self, items: &mut Vec<Item>, token: Token) -> Result<(), Stop>
-        ensures { OnOk result (item_names items.new.items ≡ None) }
+        ensures { OnOk result (BecomesValue items.old.items items.new.items) }
     {
-        let first = behind_sign(items, Kind::OpenRound);
-        let name = callee(items, first, token)?;
-        let value = self.called(name, behind(items, first))?;
-        cut(items, first.saturating_sub(2));
+        let all = items.as_slice();
+        let first = behind_sign(all, Kind::OpenRound);
+        let (at, name) = callee(all, first, token)?;
+        let value = self.called(name, behind(all, first))?;
+        items.truncate(at);
         push(items, name.token, Content::Value(value))
     }
 
     /// Replaces the last item by its value.
     fn settle(&self, items: &mut Vec<Item>) -> Result<(), Stop>
-        ensures { OnOk result (item_names items.new.items ≡ None) }
+        ensures { OnOk result (BecomesValue items.old.items items.new.items) }
     {
         let item = self.pop(items)?;
         let value = self.value_of(item)?;
@@ -161,7 +171,7 @@ impl<'t> Scope<'t> {
     }
 
     fn close_unary(&self, items: &mut Vec<Item>) -> Result<(), Stop>
-        ensures { OnOk result (item_names items.new.items ≡ None) }
+        ensures { OnOk result (BecomesValue items.old.items items.new.items) }
     {
         let operand = self.pop(items)?;
         let operator = self.pop(items)?;
@@ -170,7 +180,7 @@ impl<'t> Scope<'t> {
     }
 
     fn close_binary(&self, items: &mut Vec<Item>) -> Result<(), Stop>
-        ensures { OnOk result (item_names items.new.items ≡ None) }
+        ensures { OnOk result (BecomesValue items.old.items items.new.items) }
     {
         let right = self.pop(items)?;
         let operator = self.pop(items)?;
@@ -186,7 +196,7 @@ impl<'t> Scope<'t> {
 
     /// Ends a component, whose letter is a token.
     fn close_member(&self, items: &mut Vec<Item>, letter: Token) -> Result<(), Stop>
-        ensures { OnOk result (item_names items.new.items ≡ None) }
+        ensures { OnOk result (BecomesValue items.old.items items.new.items) }
     {
         let item = self.pop(items)?;
         let value = self.value_of(item)?;
@@ -195,18 +205,18 @@ impl<'t> Scope<'t> {
 
     /// Ends an element.
     fn close_element(&self, items: &mut Vec<Item>) -> Result<(), Stop>
-        ensures { OnOk result (item_names items.new.items ≡ None) }
+        ensures { OnOk result (BecomesValue items.old.items items.new.items) }
     {
-        let index = self.pop(items)?;
+        let at = self.pop(items)?;
         self.pop(items)?;
         let item = self.pop(items)?;
-        let index = self.value_of(index)?;
+        let index = self.value_of(at)?;
         put(items, item, element(self.value_of(item)?, index), item)
     }
 
     /// Ends what isn't evaluated here.
     fn close_part(&self, items: &mut Vec<Item>) -> Result<(), Stop>
-        ensures { OnOk result (item_names items.new.items ≡ None) }
+        ensures { IsErr result }
     {
         let item = self.pop(items)?;
         match self.value_of(item)? {
@@ -231,7 +241,9 @@ impl<'t> Scope<'t> {
     }
 
     /// The value that an item stands for.
-    pub fn value_of(&self, item: Item) -> Result<Value, Stop> {
+    pub fn value_of(&self, item: Item) -> Result<Value, Stop>
+        ensures { IfOk result (IsValueSaid self.now.text (meaning_of self.now) item.token item.content) }
+    {
         match item.content {
             Content::Value(value) => Ok(value),
             Content::Name => match self.meaning(self.text.word(item.token)) {
@@ -283,8 +295,7 @@ pub fn first_count(events: &[Event]) -> usize
 }
 
 fn push(items: &mut Vec<Item>, token: Token, content: Content) -> Result<(), Stop>
-    ensures name { content ≡ Name → OnOk result (item_names items.new.items ≡ with_last token (item_names items.old.items)) }
-    ensures no_name { is_name content ≡ false → OnOk result (item_names items.new.items ≡ None) }
+    ensures { OnOk result (items.new.items ≡ items.old.items ++ item token content ∷ []) }
 {
     items.push(Item { token, content })?;
     Ok(())
@@ -297,7 +308,7 @@ fn put(
     value: Result<Value, Cause>,
     at: Item,
 ) -> Result<(), Stop>
-    ensures { OnOk result (item_names items.new.items ≡ None) }
+    ensures { OnOk result (BecomesValue items.old.items items.new.items) }
 {
     match value {
         Ok(value) => push(items, first.token, Content::Value(value)),
@@ -313,18 +324,22 @@ fn sign_of(item: Item) -> Kind {
     }
 }
 
-/// The name in front of the sign behind which the items from an index on stand.
-fn callee(items: &[Item], first: usize, token: Token) -> Result<Item, Stop> {
+/// The name in front of the sign behind which the items from an index on stand, with its index.
+fn callee(items: &[Item], first: usize, token: Token) -> Result<(usize, Item), Stop>
+    ensures { IfOk result (λ found. (first ≡ suc (suc found.0)) × (slice_get items.now found.0 ≡ Some found.1)) }
+{
     match first.checked_sub(2) {
         Some(index) => match items.get(index) {
-            Some(item) => Ok(*item),
+            Some(item) => Ok((index, *item)),
             None => Err(Stop::at(token.at, Cause::NotInteger)),
         },
         None => Err(Stop::at(token.at, Cause::NotInteger)),
     }
 }
 
-fn behind(items: &[Item], first: usize) -> &[Item] {
+fn behind(items: &[Item], first: usize) -> &[Item]
+    ensures { result.now ≡ drop first items.now }
+{
     match items.get(first..) {
         Some(rest) => rest,
         None => &[],

@@ -1,22 +1,18 @@
 // Types, as a module writes them.
-ghost use Rattle.std.specs.Prelude.{◌≡◌, IfOk, Some, false, slice_get};
+ghost use Rattle.std.specs.Prelude.{◌≡◌, IfOk, Some, slice_get};
 ghost use Rattle.wgsl_rules.specs.layout.Layout.{IsExactly};
-ghost use Rattle.wgsl_source.specs.Measures.{IsArrayAmong};
 ghost use Rattle.wgsl_source.specs.Members.{Grows, IsLeastSize};
-ghost use Rattle.wgsl_source.specs.WrittenTypes.{IsLeaf, StandsFor, meaning_of};
-ghost use Rattle.wgsl_source.specs.internal.Items.{NamesSpace, is_name};
+ghost use Rattle.wgsl_source.specs.WrittenTypes.{IsLeaf, IsListed, IsListedBy, IsTypeSaid, environment, meaning_of};
+ghost use Rattle.wgsl_source.specs.internal.Items.{NamesSpace};
 ghost use Rattle.wgsl_spelling.specs.Predeclared.{predeclared as predeclared_by};
 ghost use Rattle.wgsl_spelling.specs.Words.{word};
 
-use crate::check::element_fault;
 use crate::fault::{Cause, Expected, Fault, Named, Stop};
 use crate::item::{Content, Item};
 use crate::leaf::space_named;
 use crate::measured::{Count, MeasuredType, TypeKind};
 use crate::scope::{Meaning, Scope};
-use crate::value::Value;
 use std::alloc::Global;
-use wgsl_constants::call::integer;
 use wgsl_spelling::predeclared::{LayerName, PredeclaredType, predeclared};
 use wgsl_syntax::address::AddressSpace;
 use wgsl_syntax::scalar::Scalar;
@@ -61,7 +57,8 @@ impl Types {
         Ok(self.naga_only.push(Fault { at, cause })?)
     }
 
-    fn keep(&mut self, element: MeasuredType) -> Result<usize, Stop>
+    /// Keeps a type that stands in another one. Returns its index.
+    pub fn keep(&mut self, element: MeasuredType) -> Result<usize, Stop>
         ensures grows { Grows self.old self.new }
         ensures kept { IfOk result (λ index. slice_get self.new.elements.items index ≡ Some element) }
     {
@@ -75,8 +72,7 @@ impl<'t> Scope<'t> {
     /// The type that an item stands for.
     pub fn type_of(&self, types: &mut Types, item: Item) -> Result<MeasuredType, Stop>
         ensures grows { Grows types.old types.new }
-        ensures named { item.content ≡ Content.Name → IfOk result
-            (StandsFor (word self.now.text.text.now item.token) (meaning_of self.now (word self.now.text.text.now item.token))) }
+        ensures said { IfOk result (IsTypeSaid self.now.text (meaning_of self.now) item.token item.content) }
     {
         match item.content {
             Content::Type(ty) => Ok(ty),
@@ -127,13 +123,13 @@ impl<'t> Scope<'t> {
         parameters: &[Item],
     ) -> Result<Content, Stop>
         ensures grows { Grows types.old types.new }
-        ensures no_name { IfOk result (λ content. is_name content ≡ false) }
+        ensures listed { IfOk result (IsListedBy self.now.text (environment self.now types.new) (word self.now.text.text.now name.token) parameters.now) }
     {
         let word = self.text.word(name.token);
         match self.meaning(word) {
             Some(Meaning::Faulty | Meaning::Unread) => Err(name.elsewhere()),
             Some(_) => Err(name.stop(Cause::NeedlessList)),
-            None if word == "bitcast" => self.bitcast(types, parameters),
+            None if word == "bitcast" => self.bitcast(types, name, parameters),
             None if predeclared(word).is_none() => Ok(Content::Function),
             None => {
                 let named = self.predeclared_type(types, name)?;
@@ -147,9 +143,9 @@ impl<'t> Scope<'t> {
         }
     }
 
-    fn bitcast(&self, types: &mut Types, parameters: &[Item]) -> Result<Content, Stop>
+    fn bitcast(&self, types: &mut Types, name: Item, parameters: &[Item]) -> Result<Content, Stop>
         ensures grows { Grows types.old types.new }
-        ensures no_name { IfOk result (λ content. is_name content ≡ false) }
+        ensures listed { IfOk result (IsListedBy self.now.text (environment self.now types.new) (word self.now.text.text.now name.token) parameters.now) }
     {
         match parameters {
             [of] => {
@@ -168,7 +164,8 @@ impl<'t> Scope<'t> {
         named: PredeclaredType,
         parameters: &[Item],
     ) -> Result<MeasuredType, Stop>
-        ensures { Grows types.old types.new }
+        ensures grows { Grows types.old types.new }
+        ensures listed { IfOk result (IsListed self.now.text (environment self.now types.new) named parameters.now) }
     {
         let kind = match named {
             PredeclaredType::Layer(layer) => {
@@ -186,83 +183,6 @@ impl<'t> Scope<'t> {
         Ok(MeasuredType::resource(kind))
     }
 
-    /// A type around another.
-    fn layered(
-        &self,
-        types: &mut Types,
-        name: Item,
-        layer: LayerName,
-        parameters: &[Item],
-    ) -> Result<MeasuredType, Stop>
-        ensures { Grows types.old types.new }
-    {
-        match self.formed(types, name, layer, parameters)? {
-            Ok(ty) => Ok(ty),
-            Err(cause) => Err(name.stop(cause)),
-        }
-    }
-
-    /// A type around another, or why there is none.
-    fn formed(
-        &self,
-        types: &mut Types,
-        name: Item,
-        layer: LayerName,
-        parameters: &[Item],
-    ) -> Result<Result<MeasuredType, Cause>, Stop>
-        ensures { Grows types.old types.new }
-    {
-        match (layer, parameters) {
-            (LayerName::Array, [of, rest @ ..]) => {
-                let element = self.type_of(types, *of)?;
-                array(types, element, self.count(name, rest)?)
-            }
-            (LayerName::BindingArray, [of, rest @ ..]) => {
-                let element = self.type_of(types, *of)?;
-                binding_array(types, element, self.count(name, rest)?)
-            }
-            (LayerName::Pointer, [space, of, rest @ ..]) => {
-                self.pointer(types, *space, *of, rest, name)
-            }
-            (LayerName::Vec(_) | LayerName::Mat(_, _) | LayerName::Atomic, [of]) => {
-                let inside = self.type_of(types, *of)?;
-                Ok(scalars(layer, &inside))
-            }
-            _ => Ok(Err(Cause::WrongParameterCount)),
-        }
-    }
-
-    /// A pointer. Its access mode may follow the type to which it points.
-    fn pointer(
-        &self,
-        types: &mut Types,
-        space: Item,
-        of: Item,
-        rest: &[Item],
-        name: Item,
-    ) -> Result<Result<MeasuredType, Cause>, Stop>
-        ensures { Grows types.old types.new }
-    {
-        let space = self.space(types, space)?;
-        let inside = self.type_of(types, of)?;
-        let access = self.memory_access(space, rest, name)?;
-        let index = types.keep(inside)?;
-        Ok(Ok(inside.around(TypeKind::Pointer(space, index, access), None, None)))
-    }
-
-    /// The number of elements behind their type, if there is one.
-    fn count(&self, name: Item, rest: &[Item]) -> Result<Count, Stop> {
-        let item = match rest {
-            [] => return Ok(Count::Runtime),
-            [item] => *item,
-            _ => return Err(name.stop(Cause::WrongParameterCount)),
-        };
-        match count_of(self.value_of(item)?) {
-            Ok(count) => Ok(count),
-            Err(cause) => Err(item.stop(cause)),
-        }
-    }
-
     /// An address space.
     pub fn space(&self, types: &mut Types, item: Item) -> Result<AddressSpace, Stop>
         ensures grows { Grows types.old types.new }
@@ -277,37 +197,6 @@ impl<'t> Scope<'t> {
             None => Err(item.stop(Cause::Expected(Expected::AddressSpace))),
         }
     }
-}
-
-/// An array of elements of this type, or why there is none.
-fn array(
-    types: &mut Types,
-    element: MeasuredType,
-    count: Count,
-) -> Result<Result<MeasuredType, Cause>, Stop>
-    ensures grows { Grows types.old types.new }
-    ensures array { IfOk result (λ r. IfOk r (IsArrayAmong types.new.elements.items element)) }
-{
-    if let Some(cause) = element_fault(&element) {
-        return Ok(Err(cause));
-    }
-    let index = types.keep(element)?;
-    let array = element.array(index, count);
-    match (count, array.size) {
-        (Count::Known(_), None) => Ok(Err(Cause::TooLarge)),
-        _ => Ok(Ok(array)),
-    }
-}
-
-fn binding_array(
-    types: &mut Types,
-    element: MeasuredType,
-    count: Count,
-) -> Result<Result<MeasuredType, Cause>, Stop>
-    ensures { Grows types.old types.new }
-{
-    let index = types.keep(element)?;
-    Ok(Ok(element.around(TypeKind::BindingArray(index, count), None, None)))
 }
 
 /// The type that a declaration stands for, named by an item.
@@ -344,33 +233,4 @@ fn leaf(name: Item, named: PredeclaredType) -> Result<MeasuredType, Stop>
         PredeclaredType::Layer(_) => return Err(name.stop(Cause::NoList)),
     };
     Ok(MeasuredType::resource(kind))
-}
-
-/// A vector, a matrix or an atomic of a type, or why there is none.
-fn scalars(layer: LayerName, inside: &MeasuredType) -> Result<MeasuredType, Cause> {
-    match (layer, inside.as_scalar()) {
-        (LayerName::Vec(n), Some(scalar)) => Ok(MeasuredType::vector(n, scalar)),
-        (LayerName::Vec(_), None) => Err(Cause::VectorComponent),
-        (LayerName::Mat(c, r), Some(scalar)) if scalar.is_float() => {
-            Ok(MeasuredType::matrix(c, r, scalar))
-        }
-        (LayerName::Mat(_, _), _) => Err(Cause::MatrixComponent),
-        (_, Some(scalar)) if scalar.is_integer() => Ok(MeasuredType::atomic(scalar)),
-        _ => Err(Cause::AtomicContent),
-    }
-}
-
-/// The number of elements that a value gives, or why it gives none.
-fn count_of(value: Value) -> Result<Count, Cause> {
-    let number = match value {
-        Value::Known(constant) => integer(constant)?.value(),
-        Value::Vector(_) => return Err(Cause::NotInteger),
-        Value::Later => return Ok(Count::Override),
-    };
-    match u32::try_from(number) {
-        Ok(0) => Err(Cause::NoElements),
-        Ok(number) => Ok(Count::Known(number)),
-        Err(_) if number < 0 => Err(Cause::NoElements),
-        Err(_) => Err(Cause::TooLarge),
-    }
 }

@@ -1,23 +1,15 @@
 -- The names among the items that are read of a template list.
-use Rattle.std.specs.Prelude.{◌≡◌, List, [], ◌∷◌, ◌++◌, Bool, true, false, Option, Some, None, option_map}
-use Rattle.wgsl_reader.specs.declared.mark.Mark.{Mark}
-use Rattle.wgsl_reader.specs.declared.mark.Mark.TheVariants as m
-use Rattle.wgsl_reader.specs.declared.read.Event.{Event}
+use Rattle.std.specs.Prelude.{◌≡◌, List, [], ◌∷◌, true, Option, Some, None, option_map}
 use Rattle.wgsl_reader.specs.declared.token.Token.{Token}
 use Rattle.wgsl_spelling.specs.Words.{word}
 use Rattle.wgsl_syntax.specs.Address.{IsSpace, access_text, default_access, may_say}
 use Rattle.wgsl_syntax.specs.declared.address.AccessMode.{AccessMode}
 use Rattle.wgsl_syntax.specs.declared.address.AddressSpace.{AddressSpace}
 use Rattle.wgsl_syntax.specs.declared.rules.RuleSet.TheVariants.{Standard}
-use Rattle.wgsl_source.specs.Declarations.{token_before}
 use Rattle.wgsl_source.specs.declared.item.Content.{Content}
 use Rattle.wgsl_source.specs.declared.item.Content.TheVariants as content
 use Rattle.wgsl_source.specs.declared.item.Item.{Item}
 use Rattle.wgsl_source.specs.declared.text.Text.{Text}
-
-abbrev pub is_name : Content → Bool
-is_name content.Name = true
-is_name other = false
 
 abbrev pub with_content : Content → Token → Option (List Token) → Option (List Token)
 with_content content.Name token names = option_map (λ ts. token ∷ ts) names
@@ -27,20 +19,6 @@ with_content other token names = None
 abbrev pub item_names : List Item → Option (List Token)
 item_names [] = Some []
 item_names (item ∷ items) = with_content item.content item.token (item_names items)
-
-abbrev pub with_last : Token → Option (List Token) → Option (List Token)
-with_last token names = option_map (λ ts. ts ++ token ∷ []) names
-
--- the names behind an event
-abbrev pub behind_event : Mark → Token → Option (List Token) → Option (List Token)
-behind_event m.Name token names = with_last token names
-behind_event m.Value token names = names
-behind_event other token names = None
-
--- the names behind all events
-abbrev pub behind_events : Text → List Event → Option (List Token) → Option (List Token)
-behind_events t [] names = names
-behind_events t (event ∷ events) names = behind_events t events (behind_event event.mark (token_before t event.at) names)
 
 -- an item is the name of this address space, or of this access mode
 pub record NamesSpace (t : Text) (item : Item) (space : AddressSpace) : Type 0 where

@@ -1,9 +1,6 @@
 -- What is known of variables, overrides, entry points, aliases and attributes while they are read.
 use Rattle.std.specs.Prelude.{◌≡◌, ◌≢◌, ℕ, List, [], ◌∷◌, ◌++◌, IsTrue, MatchOption, Option, Some, None, Result, Ok, Err, false}
 use Rattle.std.specs.Option.{option_or}
-use Rattle.wgsl_constants.specs.Literals.{integer_of}
-use Rattle.wgsl_constants.specs.declared.constant.Constant.{Constant}
-use Rattle.wgsl_constants.specs.declared.constant.Constant.TheVariants as constant
 use Rattle.wgsl_source.specs.Attributes.{Attribute, IsNumberOf, argument_if, stage_by}
 use Rattle.wgsl_source.specs.TextDeclarations.{AreKept, Declared, IsLeft, IsOne, Sort, of_aliases, of_entry_points, of_overrides, of_variables}
 use Rattle.wgsl_source.specs.WrittenTypes.{environment}
@@ -14,8 +11,6 @@ use Rattle.wgsl_source.specs.declared.fault.Fault.{Fault}
 use Rattle.wgsl_source.specs.declared.others.Others.{Others}
 use Rattle.wgsl_source.specs.declared.scope.Scope.{Scope}
 use Rattle.wgsl_source.specs.declared.types.Types.{Types}
-use Rattle.wgsl_source.specs.declared.value.Value.{Value}
-use Rattle.wgsl_source.specs.declared.value.Value.TheVariants as value
 
 abbrev pub declared_of : Declaration → Declared
 declared_of d = record { kind = Some d.kind; name = d.name.now; place = d.place; attributes = d.attributes.now; list = d.list.now; rest = d.rest.now }
@@ -83,13 +78,3 @@ pub record Adds (a : Attribute) (old new : Attributes) : Type 0 where
 -- nothing is said
 abbrev pub SameValues : Attributes → Attributes → Type 0
 SameValues old new = Adds (record { name = None; literal = None }) old new
-
--- a constant that is an integer is that of the literal
-abbrev pub IsLiteral : List ℕ → Constant → Type 0
-IsLiteral text (constant.Integer i) = integer_of text ≡ Some i
-IsLiteral text other = Unit {0}
-
--- the value of an argument, if that is one literal
-abbrev pub IsArgument : Option (List ℕ) → Value → Type 0
-IsArgument (Some text) (value.Known c) = IsLiteral text c
-IsArgument text other = Unit {0}

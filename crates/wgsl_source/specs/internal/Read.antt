@@ -84,10 +84,10 @@ pub record IsFrom (t : Text) (d : Declaration) (struct : Struct) : Type 0 where
 abbrev pub AreNamed : List Declaration → Scope → Type 0
 AreNamed ds s = (name : List ℕ) (index : ℕ) → index_of s name ≡ Some index → (d : Declaration) × (slice_get ds index ≡ Some d) × (d.name.now ≡ name)
 
--- names keep their declarations, and their types once these are read
+-- names keep their declarations, and what they stand for once these are read
 pub record Stays (old new : Scope) : Type 0 where
   pub names : new.names ≡ old.names
-  pub types : (name : List ℕ) (t : MeasuredType) → meaning_of old name ≡ Some (meaning.«Type» t) → meaning_of new name ≡ Some (meaning.«Type» t)
+  pub meanings : (name : List ℕ) (m : Meaning) → m ≢ meaning.Unread → meaning_of old name ≡ Some m → meaning_of new name ≡ Some m
   pub undeclared : (name : List ℕ) → meaning_of old name ≡ None → meaning_of new name ≡ None
 
 -- a struct that can be read is one of the text's
