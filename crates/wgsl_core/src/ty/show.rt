@@ -1,16 +1,16 @@
 // How types are printed.
-ghost use Rattle.std.specs.Prelude.{◌++◌, codes, option_map};
+ghost use Rattle.std.specs.Prelude.{◌++◌, option_map};
 ghost use Rattle.std.specs.Fmt.{DisplaysStyledOnOk, WritesOnOk};
-ghost use Rattle.wgsl_syntax.specs.Address.{access_text};
 ghost use Rattle.wgsl_syntax.specs.Scalar.{scalar_text};
 ghost use Rattle.wgsl_rules.specs.types.Spelling.{count_end, spelling_by};
-ghost use Rattle.wgsl_core.specs.Forms.{scalar_of};
+ghost use Rattle.wgsl_core.specs.Forms.{form_view, scalar_of};
 ghost use Rattle.wgsl_core.specs.View.{view};
+ghost use Rattle.wgsl_core.specs.internal.Spelling.{start_by, end_of};
 
 use crate::ty::Type;
+use crate::ty::form::Form;
 use std::fmt;
 use std::fmt::Write;
-use wgsl_syntax::address::AccessMode;
 use wgsl_syntax::rules::RuleSet;
 use wgsl_syntax::texture::ShownTexture;
 
@@ -57,74 +57,93 @@ pub fn write_type<W: Write>(f: &mut fmt::Formatter<W>, rules: RuleSet, ty: &Type
     ensures styled { DisplaysStyledOnOk W.write_str_gives f.old result
         (option_map scalar_text (scalar_of (view ty.now))) f.new }
 {
+    let form = ty.form();
+    write_start(f, rules, form)?;
     match ty {
-        Type::Bool => f.write_str("bool"),
-        Type::AbstractInt => f.write_str("AbstractInt"),
-        Type::AbstractFloat => f.write_str("AbstractFloat"),
-        Type::I32 => f.write_str("i32"),
-        Type::U32 => f.write_str("u32"),
-        Type::F32 => f.write_str("f32"),
-        Type::F16 => f.write_str("f16"),
-        Type::Struct(s) => f.write_str(&s.name),
-        Type::Array(t, n) => write_counted(f, rules, "array<", t, *n),
-        Type::Vec(n, t) => {
-            write!(f, "vec{n}<")?;
-            write_type(f, rules, t)?;
-            f.write_str(">")
-        }
-        Type::Mat(c, r, t) => {
-            write!(f, "mat{c}x{r}<")?;
-            write_type(f, rules, t)?;
-            f.write_str(">")
-        }
-        Type::Atomic(t) => {
-            f.write_str("atomic<")?;
-            write_type(f, rules, t)?;
-            f.write_str(">")
-        }
-        Type::Ptr(s, t, m) => {
-            let space = s.name_by(rules);
-            write!(f, "ptr<{space}, ")?;
-            write_type(f, rules, t)?;
-            write_access(f, *m)
-        }
-        Type::Ref(s, t, m) => {
-            let space = s.name_by(rules);
-            write!(f, "ref<{space}, ")?;
-            write_type(f, rules, t)?;
-            write_access(f, *m)
-        }
-        Type::Texture(t) => {
-            let shown = ShownTexture { texture: *t, rules };
-            write!(f, "{shown}")
-        }
-        Type::Sampler(s) => write!(f, "{s}"),
-        Type::I64 => f.write_str("i64"),
-        Type::U64 => f.write_str("u64"),
-        Type::F64 => f.write_str("f64"),
-        Type::BindingArray(t, n) => write_counted(f, rules, "binding_array<", t, *n),
-        Type::RayQuery(None) => f.write_str("ray_query"),
-        Type::RayQuery(Some(flag)) => write!(f, "ray_query<{flag}>"),
-        Type::AccelerationStructure(None) => f.write_str("acceleration_structure"),
-        Type::AccelerationStructure(Some(flag)) => write!(f, "acceleration_structure<{flag}>"),
+        Type::Array(t, _) => write_inside(f, rules, t, form),
+        Type::Vec(_, t) => write_inside(f, rules, t, form),
+        Type::Mat(_, _, t) => write_inside(f, rules, t, form),
+        Type::Atomic(t) => write_inside(f, rules, t, form),
+        Type::Ptr(_, t, _) => write_inside(f, rules, t, form),
+        Type::Ref(_, t, _) => write_inside(f, rules, t, form),
+        Type::BindingArray(t, _) => write_inside(f, rules, t, form),
+        Type::Bool
+        | Type::AbstractInt
+        | Type::AbstractFloat
+        | Type::I32
+        | Type::U32
+        | Type::F32
+        | Type::F16
+        | Type::I64
+        | Type::U64
+        | Type::F64
+        | Type::Struct(_)
+        | Type::Texture(_)
+        | Type::Sampler(_)
+        | Type::RayQuery(_)
+        | Type::AccelerationStructure(_) => Ok(()),
     }
 }
 
-/// Writes an array: its head, its element and its end.
+/// Writes the type inside a type of this form, and the end behind it.
 #[cycle(shown)]
-fn write_counted<W: Write>(
+fn write_inside<W: Write>(
     f: &mut fmt::Formatter<W>,
     rules: RuleSet,
-    head: &str,
-    element: &Type,
-    count: Option<usize>,
+    inside: &Type,
+    around: Form<'_>,
 ) -> fmt::Result
     ensures { WritesOnOk W.write_str_gives f.old result
-        (head.now ++ (spelling_by rules (view element.now) ++ count_end count)) f.new }
+        (spelling_by rules (view inside.now) ++ end_of (form_view around.entry)) f.new }
 {
-    f.write_str(head)?;
-    write_type(f, rules, element)?;
-    write_count(f, count)
+    write_type(f, rules, inside)?;
+    write_end(f, around)
+}
+
+/// Writes what stands in front of the type inside, or all of a type that has none.
+fn write_start<W: Write>(f: &mut fmt::Formatter<W>, rules: RuleSet, form: Form<'_>) -> fmt::Result
+    ensures plain { WritesOnOk W.write_str_gives f.old result (start_by rules (form_view form.entry)) f.new }
+    ensures styled { DisplaysStyledOnOk W.write_str_gives f.old result
+        (option_map scalar_text (scalar_of (form_view form.entry))) f.new }
+{
+    match form {
+        Form::Scalar(s) => f.write_str(s.name()),
+        Form::Array(_, _) => f.write_str("array<"),
+        Form::Vector(n, _) => write!(f, "vec{n}<"),
+        Form::Matrix(c, r, _) => write!(f, "mat{c}x{r}<"),
+        Form::Struct(s) => f.write_str(&s.name),
+        Form::Atomic(_) => f.write_str("atomic<"),
+        Form::Pointer(s, _, _) => {
+            let space = s.name_by(rules);
+            write!(f, "ptr<{space}, ")
+        }
+        Form::Reference(s, _, _) => {
+            let space = s.name_by(rules);
+            write!(f, "ref<{space}, ")
+        }
+        Form::Texture(texture) => {
+            let shown = ShownTexture { texture, rules };
+            write!(f, "{shown}")
+        }
+        Form::Sampler(s) => write!(f, "{s}"),
+        Form::BindingArray(_, _) => f.write_str("binding_array<"),
+        Form::RayQuery(None) => f.write_str("ray_query"),
+        Form::RayQuery(Some(flag)) => write!(f, "ray_query<{flag}>"),
+        Form::AccelerationStructure(None) => f.write_str("acceleration_structure"),
+        Form::AccelerationStructure(Some(flag)) => write!(f, "acceleration_structure<{flag}>"),
+    }
+}
+
+/// Writes what stands behind the type inside, if there is one.
+fn write_end<W: Write>(f: &mut fmt::Formatter<W>, form: Form<'_>) -> fmt::Result
+    ensures { WritesOnOk W.write_str_gives f.old result (end_of (form_view form.entry)) f.new }
+{
+    match form {
+        Form::Array(n, _) | Form::BindingArray(n, _) => write_count(f, n),
+        Form::Vector(_, _) | Form::Matrix(_, _, _) | Form::Atomic(_) => f.write_str(">"),
+        Form::Pointer(_, _, access) | Form::Reference(_, _, access) => write!(f, ", {access}>"),
+        _ => Ok(()),
+    }
 }
 
 /// Writes the end of an array's type, behind its element.
@@ -135,12 +154,4 @@ pub fn write_count<W: Write>(f: &mut fmt::Formatter<W>, count: Option<usize>) ->
         Some(n) => write!(f, ", {n}>"),
         None => f.write_str(">"),
     }
-}
-
-/// Writes the access mode, and the end of the list.
-fn write_access<W: Write>(f: &mut fmt::Formatter<W>, access: AccessMode) -> fmt::Result
-    ensures { WritesOnOk W.write_str_gives f.old result
-        (codes ", " ++ access_text access ++ codes ">") f.new }
-{
-    write!(f, ", {access}>")
 }
