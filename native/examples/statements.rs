@@ -1,7 +1,7 @@
 //! Types the statements of a small shader by WGSL's rules, as a front end does for each part that it has parsed. It decides only
 //! names, literals and scopes itself.
 
-use std::{error::Error, fmt::Display};
+use std::{error::Error, fmt::Display, slice::from_ref};
 use wgsl_types_proved::standard::{
     address_of, assign, assign_by, construct, increment, initialized_variable, type_binary_op,
     type_builtin_fn, type_ctor, type_of_index, type_of_member, Operand, Refusal,
@@ -53,10 +53,10 @@ fn main() -> Result<(), Box<dyn Error>> {
     show_type("light.position.zy", type_of_member(&position, "zy"));
     show_type("&c", address_of(&c));
     show_type("&c.x", address_of(&x));
-    let ones = type_ctor("vec3", None, &[one.clone()])?;
+    let ones = type_ctor("vec3", None, from_ref(&one))?;
     show_type("vec3(1) + c", type_binary_op(Addition, &ones, &c));
-    show_type("Light(1)", construct(&light_type(), &[one.clone()]));
-    let bits = type_builtin_fn("bitcast", Some(&Type::U32), &[i.clone()])?;
+    show_type("Light(1)", construct(&light_type(), from_ref(&one)));
+    let bits = type_builtin_fn("bitcast", Some(&Type::U32), from_ref(&i))?;
     show_type("bitcast<u32>(i)", bits.ok_or("no value"));
 
     show("c.x = 1", assign(&x, &one));

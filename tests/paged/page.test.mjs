@@ -201,6 +201,9 @@ test("of many structs, those near to the window are drawn", async () => {
   assert.equal(await page.run("document.querySelector('.struct').textContent"), "");
   await page.run("document.querySelector('.struct').scrollIntoView()");
   await page.until("document.querySelector('.struct').textContent.includes('a: vec4<f32>')");
+  const other = shader("vec4f").replace("array<f32, 1001>", "f32"); // a card that was never near
+  await page.run(`delete document.documentElement.dataset.checked; source.value = ${JSON.stringify(other)}; source.dispatchEvent(new Event("input"))`);
+  await page.until("document.documentElement.dataset.checked !== undefined");
   await page.run(fill("struct A { a: f32 }"));
   assert.deepEqual(await page.run(texts(".struct h2")), ["struct A"]);
 });
