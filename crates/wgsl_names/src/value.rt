@@ -1,7 +1,7 @@
 // Values that are known before the shader runs: scalars, and vectors of integers.
 
 use wgsl_constants::constant::Constant;
-use wgsl_constants::integer::Integer;
+use wgsl_constants::integer::{Integer, IntegerError};
 use wgsl_constants::vector::{COMPONENTS, Vector, alike, zero_of};
 use wgsl_core::ty::Type;
 use wgsl_core::ty::form::Form;
@@ -54,7 +54,8 @@ fn converted_integer(integer: Integer, to: Scalar) -> Result<Option<Constant>, O
     match (zero_of(to), integer) {
         (Some(zero), _) => match alike(integer, zero) {
             Ok(found) => Ok(Some(Constant::Integer(found))),
-            Err(_) => Err(OutOfRange),
+            Err(IntegerError::Overflow) => Err(OutOfRange),
+            Err(_) => Ok(None),
         },
         (None, Integer::Abstract(value)) => match to {
             Scalar::F16 if value > 65519 || value < -65519 => Err(OutOfRange),
@@ -73,7 +74,8 @@ fn each_converted(several: Vector, to: Option<Scalar>) -> Result<Option<Value>, 
     if let Some(zero) = zero_of(to) {
         return match several.like(zero) {
             Ok(vector) => Ok(Some(Value::Several(vector))),
-            Err(_) => Err(OutOfRange),
+            Err(IntegerError::Overflow) => Err(OutOfRange),
+            Err(_) => Ok(None),
         };
     }
     for which in &COMPONENTS {
