@@ -57,7 +57,12 @@ impl<'t> Expressions<'t> {
     }
 
     /// A number of this type that is no integer, for this reason.
-    fn float(&mut self, count: usize, scalar: Scalar, error: LiteralError) -> Result<Outcome, AllocError>
+    fn float(
+        &mut self,
+        count: usize,
+        scalar: Scalar,
+        error: LiteralError,
+    ) -> Result<Outcome, AllocError>
         ensures outcome { IfOk result (IsLiteral (map_value a_float (float_type self.old.extensions.f16 scalar))) }
         ensures stack { stack self.new ≡ stack self.old }
     {
