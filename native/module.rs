@@ -5,8 +5,8 @@ mod signature;
 mod uses;
 
 use crate::proved::wgsl_core::ty::show::ShownType;
-use crate::proved::wgsl_forms::form::Referent;
 use crate::proved::wgsl_faults::report::explained;
+use crate::proved::wgsl_forms::form::Referent;
 use crate::proved::wgsl_module::module::{check as checked, Checked as Found};
 use crate::proved::wgsl_names::fault::Place;
 use crate::proved::wgsl_names::known::{Known, Outcome, Typed};
