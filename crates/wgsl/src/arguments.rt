@@ -1,79 +1,148 @@
 // The program's arguments.
 
-use crate::failure::Failure;
-use crate::{VERSION, print, refuse};
-use std::process::ExitCode;
+use std::alloc::{AllocError, Global};
+use wgsl_report::report::Format;
 
-/// What an argument of a command is.
-#[derive(Clone, Copy)]
-pub enum Argument<'a> {
+/// The files and options of a request for reports.
+#[derive(Drop)]
+pub struct Arguments<'a> {
     /// `-` is standard input.
-    File(&'a str),
-    /// The value of the option that has one.
-    Value(&'a str),
-    Option(&'a str),
-    /// It says what later ones are.
-    Nothing,
+    pub files: Vec<&'a str>,
+    /// The names of the structs to report on; all structs if there is no name.
+    pub only: Vec<&'a str>,
+    pub format: Format,
 }
 
-/// Tells the arguments of a command apart.
+/// What the arguments ask for.
+#[derive(Drop)]
+pub enum Asked<'a> {
+    Help,
+    Version,
+    Report(Arguments<'a>),
+    Nothing(Misuse<'a>),
+}
+
+/// Why arguments are wrong.
 #[derive(Clone, Copy)]
-pub struct Reader {
-    /// The option that has a value: `--struct NAME` or `--struct=NAME`.
-    pub valued: &'static str,
-    /// Whether the next argument is that value.
-    pub wants_value: bool,
-    /// Whether only files follow, after `--`.
-    pub has_only_files: bool,
+pub enum Misuse<'a> {
+    UnknownOption(&'a str),
+    /// No name follows `--struct`.
+    NoName,
+    NoFile,
+    /// Two formats are asked for. This is the second.
+    OtherForm(&'a str),
+    /// A format for a single file is asked for, with several files.
+    OneFile,
 }
 
-impl Reader {
-    /// Before the first argument.
-    pub fn with(valued: &'static str) -> Reader {
+impl<'a> Misuse<'a> {
+    /// The message, and the word that follows it.
+    pub fn text(self) -> (&'static str, &'a str) {
+        match self {
+            Misuse::UnknownOption(word) => ("there is no option ", word),
+            Misuse::NoName => ("there is no name behind --struct", ""),
+            Misuse::NoFile => ("there is no file", ""),
+            Misuse::OtherForm(word) => ("another form is asked for beside ", word),
+            Misuse::OneFile => ("--c, --rust, --numpy and --typescript take one file", ""),
+        }
+    }
+}
+
+/// Reads the arguments.
+pub fn read_arguments<'a>(alloc: Global, words: &'a [String]) -> Result<Asked<'a>, AllocError> {
+    let mut reader = Reader::new(alloc);
+    for word in words {
+        match reader.read(word.as_str())? {
+            None => {}
+            Some(asked) => {
+                drop(reader);
+                return Ok(asked);
+            }
+        }
+    }
+    Ok(reader.finished())
+}
+
+/// What is read of the arguments so far.
+#[derive(Drop)]
+struct Reader<'a> {
+    files: Vec<&'a str>,
+    only: Vec<&'a str>,
+    format: Option<Format>,
+    /// Whether the next word is the name of a struct.
+    names_struct: bool,
+    /// Whether only files follow, after `--`.
+    has_only_files: bool,
+}
+
+impl<'a> Reader<'a> {
+    fn new(alloc: Global) -> Reader<'a> {
         Reader {
-            valued,
-            wants_value: false,
+            files: Vec::new(alloc),
+            only: Vec::new(alloc),
+            format: None,
+            names_struct: false,
             has_only_files: false,
         }
     }
 
-    /// What an argument is, behind those that were read.
-    pub fn read<'a>(&mut self, word: &'a str) -> Argument<'a> {
-        if self.wants_value {
-            self.wants_value = false;
-            return Argument::Value(word);
+    /// Reads an argument. Returns what is asked for, if the other arguments don't matter.
+    fn read(&mut self, word: &'a str) -> Result<Option<Asked<'a>>, AllocError> {
+        if self.names_struct {
+            self.names_struct = false;
+            self.only.push(word)?;
+        } else if self.has_only_files || word == "-" || !word.starts_with('-') {
+            self.files.push(word)?;
+        } else if let Some(name) = word.strip_prefix("--struct=") {
+            self.only.push(name)?;
+        } else {
+            return Ok(self.read_option(word));
         }
-        if self.has_only_files || word == "-" || !word.starts_with('-') {
-            return Argument::File(word);
-        }
-        self.has_only_files = word == "--";
-        self.wants_value = word == self.valued;
-        if self.has_only_files || self.wants_value {
-            return Argument::Nothing;
-        }
-        match word.split_once("=") {
-            Some((option, value)) if option == self.valued => Argument::Value(value),
-            _ => Argument::Option(word),
-        }
+        Ok(None)
     }
-}
 
-/// What arguments ask for in place of the command's work.
-#[derive(Clone, Copy)]
-pub enum Asked<'a> {
-    Help,
-    Version,
-    /// Nothing: for this reason, about this word.
-    Nothing(&'static str, &'a str),
-}
+    fn read_option(&mut self, word: &'a str) -> Option<Asked<'a>> {
+        match word {
+            "--help" | "-h" => return Some(Asked::Help),
+            "--version" => return Some(Asked::Version),
+            "--" => self.has_only_files = true,
+            "--struct" => self.names_struct = true,
+            _ => {
+                let Some(format) = Format::of_option(word) else {
+                    return Some(Asked::Nothing(Misuse::UnknownOption(word)));
+                };
+                if self.format.is_some_and(|other| other != format) {
+                    return Some(Asked::Nothing(Misuse::OtherForm(word)));
+                }
+                self.format = Some(format);
+            }
+        }
+        None
+    }
 
-impl Asked<'_> {
-    /// Prints it, with the help of a command, or the command by which that is printed.
-    pub fn print(self, rt: &HostRuntime, help: &str, command: &str) -> Result<ExitCode, Failure> {
-        match self {
-            Asked::Help => print(rt, help),
-            Asked::Version => print(rt, VERSION),
-            Asked::Nothing(reason, word) => Ok(refuse(rt, reason, word, command)),
+    fn finished(self) -> Asked<'a> {
+        let Reader {
+            files,
+            only,
+            format,
+            names_struct,
+            has_only_files: _,
+        } = self;
+        let format = format.unwrap_or(Format::Tables);
+        let misuse = match files.len() {
+            _ if names_struct => Some(Misuse::NoName),
+            0 => Some(Misuse::NoFile),
+            1 => None,
+            _ if format.is_code() => Some(Misuse::OneFile),
+            _ => None,
+        };
+        match misuse {
+            Some(misuse) => Asked::Nothing(misuse),
+            None => Asked::Report(Arguments {
+                files,
+                only,
+                format,
+            }),
         }
     }
 }

@@ -1,10 +1,9 @@
 // The command `check`: it prints what is wrong with WGSL files, and the types of their expressions.
 
-use crate::arguments::{Argument, Asked, Reader};
 use crate::failure::Failure;
 use crate::files::{is_folder, list_folder, read_file, style};
-use crate::{CLEAN, FOUND, UNREAD, print};
-use std::alloc::AllocError;
+use crate::{CLEAN, FOUND, UNREAD, VERSION, print, refuse};
+use std::alloc::{AllocError, Global};
 use std::io::IsTerminal;
 use std::process::ExitCode;
 use wgsl_faults::report::{CheckOptions, Form, check_text};
@@ -39,6 +38,15 @@ struct Arguments<'a> {
     input: Option<&'a str>,
 }
 
+/// What a word asks for in place of a check.
+#[derive(Clone, Copy)]
+enum Asked<'a> {
+    Help,
+    Version,
+    /// Nothing: for this reason, about this word.
+    Nothing(&'static str, &'a str),
+}
+
 /// Does what the words behind `check` ask for.
 pub fn run(rt: &HostRuntime, words: &[String]) -> Result<ExitCode, Failure> {
     let mut arguments = Arguments {
@@ -49,28 +57,37 @@ pub fn run(rt: &HostRuntime, words: &[String]) -> Result<ExitCode, Failure> {
     };
     match arguments.read(words)? {
         None => Ok(ExitCode::from(check_all(rt, &arguments)?)),
-        Some(asked) => asked.print(rt, HELP, "wgsl check --help"),
+        Some(Asked::Help) => print(rt, HELP),
+        Some(Asked::Version) => print(rt, VERSION),
+        Some(Asked::Nothing(reason, word)) => Ok(refuse(rt, reason, word, "wgsl check --help")),
     }
 }
 
 impl<'a> Arguments<'a> {
     /// Reads the words. Returns what they ask for in place of a check.
     fn read(&mut self, words: &'a [String]) -> Result<Option<Asked<'a>>, AllocError> {
-        let mut reader = Reader::with("--stdin-filename");
+        let (mut names_input, mut has_only_files) = (false, false);
         for word in words {
-            match reader.read(word.as_str()) {
-                Argument::File(file) => self.files.push(file)?,
-                Argument::Value(name) => self.input = Some(name),
-                Argument::Nothing => {}
-                Argument::Option(word) => {
-                    let asked = self.read_option(word);
-                    if asked.is_some() {
-                        return Ok(asked);
-                    }
+            let word = word.as_str();
+            if names_input {
+                names_input = false;
+                self.input = Some(word);
+            } else if has_only_files || word == "-" || !word.starts_with('-') {
+                self.files.push(word)?;
+            } else if let Some(name) = word.strip_prefix("--stdin-filename=") {
+                self.input = Some(name);
+            } else if word == "--" {
+                has_only_files = true;
+            } else if word == "--stdin-filename" {
+                names_input = true;
+            } else {
+                let asked = self.read_option(word);
+                if asked.is_some() {
+                    return Ok(asked);
                 }
             }
         }
-        if reader.wants_value {
+        if names_input {
             return Ok(Some(Asked::Nothing("there is no name behind --stdin-filename", "")));
         }
         if self.files.is_empty() {

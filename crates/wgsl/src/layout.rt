@@ -1,13 +1,12 @@
 // The command `layout`: it prints the layouts of the structs of WGSL files, the bindings of their variables, and what is wrong.
 
-use crate::arguments::{Argument, Asked, Reader};
+use crate::arguments::{Arguments, Asked, read_arguments};
 use crate::failure::Failure;
 use crate::files::{read_file, style};
-use crate::{CLEAN, FOUND, UNREAD, print};
-use std::alloc::AllocError;
+use crate::{CLEAN, FOUND, UNREAD, VERSION, print, refuse};
 use std::io::{IsTerminal, Write};
 use std::process::ExitCode;
-use wgsl_report::report::{Format, ReportOptions, report_on};
+use wgsl_report::report::{ReportOptions, report_on};
 use wgsl_report::shown::Style;
 
 const HELP: &str = "\
@@ -30,67 +29,16 @@ Exit status: 0 if nothing is wrong, 1 if there is an error or a finding, 2 if th
 no struct has the name, 3 if memory ran out or a write failed.
 ";
 
-/// The files and options of a request for reports.
-#[derive(Drop)]
-struct Arguments<'a> {
-    files: Vec<&'a str>,
-    /// The names of the structs to report on; all structs if there is no name.
-    only: Vec<&'a str>,
-    format: Format,
-}
-
 /// Does what the words behind `layout` ask for.
 pub fn run(rt: &HostRuntime, words: &[String]) -> Result<ExitCode, Failure> {
-    let mut arguments = Arguments {
-        files: Vec::new(rt.alloc()),
-        only: Vec::new(rt.alloc()),
-        format: Format::Tables,
-    };
-    match arguments.read(words)? {
-        None => Ok(ExitCode::from(report_all(rt, &arguments)?)),
-        Some(asked) => asked.print(rt, HELP, "wgsl layout --help"),
-    }
-}
-
-impl<'a> Arguments<'a> {
-    /// Reads the words. Returns what they ask for in place of reports.
-    fn read(&mut self, words: &'a [String]) -> Result<Option<Asked<'a>>, AllocError> {
-        let mut reader = Reader::with("--struct");
-        for word in words {
-            match reader.read(word.as_str()) {
-                Argument::File(file) => self.files.push(file)?,
-                Argument::Value(name) => self.only.push(name)?,
-                Argument::Nothing => {}
-                Argument::Option(word) => {
-                    let asked = self.read_option(word);
-                    if asked.is_some() {
-                        return Ok(asked);
-                    }
-                }
-            }
+    match read_arguments(rt.alloc(), words)? {
+        Asked::Help => print(rt, HELP),
+        Asked::Version => print(rt, VERSION),
+        Asked::Report(arguments) => Ok(ExitCode::from(report_all(rt, &arguments)?)),
+        Asked::Nothing(misuse) => {
+            let (reason, word) = misuse.text();
+            Ok(refuse(rt, reason, word, "wgsl layout --help"))
         }
-        let reason = match self.files.len() {
-            _ if reader.wants_value => "there is no name behind --struct",
-            0 => "there is no file",
-            2.. if self.format.is_code() => {
-                "--c, --rust, --numpy and --typescript take one file"
-            }
-            _ => return Ok(None),
-        };
-        Ok(Some(Asked::Nothing(reason, "")))
-    }
-
-    fn read_option(&mut self, word: &'a str) -> Option<Asked<'a>> {
-        match (word, Format::of_option(word)) {
-            ("--help" | "-h", _) => return Some(Asked::Help),
-            ("--version", _) => return Some(Asked::Version),
-            (_, None) => return Some(Asked::Nothing("there is no option ", word)),
-            (_, Some(format)) if self.format == Format::Tables || self.format == format => {
-                self.format = format;
-            }
-            _ => return Some(Asked::Nothing("another form is asked for beside ", word)),
-        }
-        None
     }
 }
 
