@@ -148,14 +148,14 @@ class Reader:
         if text == "const" and self.next()[2] == "name":
             name, _, _ = self.next()
             self.taken += 1
-            return self.operand(at, (name, self.list(name)), True)
+            return self.noted(at, (name, self.list(name)), True)
         ensure(kind == "name" and text != "const")
         named = text, self.list(text)
         if not self.take("("):
-            return self.operand(at, named, False)
+            return self.noted(at, named, False)
         return Node(at, "call", named, self.arguments())
 
-    def operand(self, at, named, is_constant):
+    def noted(self, at, named, is_constant):
         text, last, _ = self.tokens[self.taken - 1]
         self.operands.append((at, last + len(text)))
         return Node(at, "operand", (named, is_constant))
