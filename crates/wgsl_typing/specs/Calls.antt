@@ -4,14 +4,14 @@ use Rattle.std.specs.List.{list_all}
 use Rattle.wgsl_core.specs.View.{view}
 use Rattle.wgsl_rules.specs.types.Types.{WgslType}
 use Rattle.wgsl_rules.specs.standard.Evaluation.{may_be_dropped}
-use Rattle.wgsl_names.specs.Faults.{last_of, up_to}
-use Rattle.wgsl_names.specs.Known.{typed_in}
-use Rattle.wgsl_names.specs.declared.fault.Place.{Place}
-use Rattle.wgsl_names.specs.declared.known.Known.{Known}
-use Rattle.wgsl_names.specs.declared.known.Known.TheVariants as knowns
-use Rattle.wgsl_names.specs.declared.known.Outcome.{Outcome}
-use Rattle.wgsl_names.specs.declared.known.Outcome.TheVariants as outcomes
-use Rattle.wgsl_names.specs.declared.known.Part.{Part}
+use Rattle.wgsl_typing.specs.Faults.{last_of, up_to}
+use Rattle.wgsl_typing.specs.Known.{typed_in}
+use Rattle.wgsl_typing.specs.declared.fault.Place.{Place}
+use Rattle.wgsl_typing.specs.declared.known.Known.{Known}
+use Rattle.wgsl_typing.specs.declared.known.Known.TheVariants as knowns
+use Rattle.wgsl_typing.specs.declared.known.Outcome.{Outcome}
+use Rattle.wgsl_typing.specs.declared.known.Outcome.TheVariants as outcomes
+use Rattle.wgsl_typing.specs.declared.known.Part.{Part}
 use Rattle.wgsl_spelling.specs.declared.predeclared.LayerName.TheVariants as layers
 use Rattle.wgsl_spelling.specs.declared.predeclared.PredeclaredType.{PredeclaredType}
 use Rattle.wgsl_spelling.specs.declared.predeclared.PredeclaredType.TheVariants as p

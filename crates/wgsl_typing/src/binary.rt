@@ -1,7 +1,7 @@
 // Binary operators (WGSL, "Expressions").
 ghost use Rattle.std.specs.Prelude.{◌≡◌, [], ◌∷◌, IfOk, None};
-ghost use Rattle.wgsl_names.specs.Known.{typed_in};
-ghost use Rattle.wgsl_names.specs.Stages.{later};
+ghost use Rattle.wgsl_typing.specs.Known.{typed_in};
+ghost use Rattle.wgsl_typing.specs.Stages.{later};
 ghost use Rattle.wgsl_spelling.specs.Operators.{binary_of};
 ghost use Rattle.wgsl_standard.specs.Callees.{a_binary};
 ghost use Rattle.wgsl_typing.specs.Outcomes.{IsOverloaded, loaded};
@@ -13,12 +13,12 @@ use crate::ask::resolved_binary;
 use crate::constant::{binary_value, decided, wrong_right};
 use crate::expression::of_call;
 use crate::expressions::Expressions;
+use crate::fault::{Place, Rule};
+use crate::known::{Outcome, Part, Typed};
+use crate::stage::Stage;
+use crate::value::Value;
 use std::alloc::AllocError;
 use wgsl_core::ty::Type;
-use wgsl_names::fault::{Place, Rule};
-use wgsl_names::known::{Outcome, Part, Typed};
-use wgsl_names::stage::Stage;
-use wgsl_names::value::Value;
 use wgsl_spelling::operator::binary_of;
 use wgsl_syntax::operator::BinaryOperator;
 

@@ -14,14 +14,14 @@ use crate::ask::{misfit, resolved};
 use crate::constant::call_value;
 use crate::expression::of_call;
 use crate::expressions::Expressions;
+use crate::fault::{Place, Rule};
 use crate::item::{Callee as Called, Item, Listed};
+use crate::known::{Known, Outcome, Part, Signature};
 use crate::meant::Wanted;
 use crate::name::{Meaning, predeclared_type, typed};
+use crate::stage::Stage;
 use std::alloc::{AllocError, Global};
 use wgsl_core::ty::Type;
-use wgsl_names::fault::{Place, Rule};
-use wgsl_names::known::{Known, Outcome, Part, Signature};
-use wgsl_names::stage::Stage;
 use wgsl_spelling::predeclared::{LayerName, PredeclaredType};
 use wgsl_standard::callee::{
     Callee, can_be_const_expression, may_be_dropped, needs_subgroups, stages_of,

@@ -11,6 +11,7 @@ ghost use Rattle.wgsl_typing.specs.Templates.{IsAround, IsClosed, IsLimited, IsL
 
 use crate::count::may_be_counted;
 use crate::expressions::Expressions;
+use crate::fault::{Place, Rule};
 use crate::item::{Item, Listed};
 use crate::meant::Wanted;
 use crate::name::{Meaning, predeclared_type};
@@ -18,7 +19,6 @@ use std::alloc::AllocError;
 use wgsl_core::ty::Type;
 use wgsl_core::ty::form::Form;
 use wgsl_forms::variable::variable;
-use wgsl_names::fault::{Place, Rule};
 use wgsl_spelling::predeclared::{LayerName, PredeclaredType};
 use wgsl_standard::callee::{Callee, overloads};
 use wgsl_syntax::address::{AccessMode, AddressSpace};

@@ -9,12 +9,12 @@ ghost use Rattle.wgsl_typing.specs.Templates.{only_type};
 ghost use Rattle.wgsl_typing.specs.Types.{no_type_on, type_of_item};
 
 use crate::expressions::Expressions;
+use crate::fault::{Place, Rule};
 use crate::item::Item;
+use crate::known::{Outcome, Part};
 use crate::name::Meaning;
 use std::alloc::AllocError;
 use wgsl_core::ty::Type;
-use wgsl_names::fault::{Place, Rule};
-use wgsl_names::known::{Outcome, Part};
 use wgsl_spelling::meant::{ACCESS_MODES, SPACES};
 use wgsl_spelling::name::{access_named, space_named};
 use wgsl_syntax::address::{AccessMode, AddressSpace};
