@@ -116,10 +116,14 @@ head (callees.Name count) = last_of count
 head (callees.Listed place listed) = place
 
 -- `f(x, y)`: its arguments are used
+abbrev pub IsPartOfCall : Callee → List Part → Context → ℕ → Part → Type 0
+IsPartOfCall c xs context at x = (x.place ≡ up_to (head c) (last_of at)) × (x.declared ≡ None) × IsCallIf (are_typed xs) context c xs x.outcome
+
+abbrev pub EndsCall : Callee → List Part → List Item → ℕ → Stack → Stack → Type 0
+EndsCall c xs rest at s r = (x : Part) × IsPartOfCall c xs s.context at x × (r ≡ record { items = items.Part x ∷ rest; parts = s.parts ++ xs; context = s.context })
+
 abbrev pub CallsOf : List Item → ℕ → Stack → Stack → Type 0
-CallsOf (items.Call c xs ∷ rest) at s r = (o : Part) × (o.place ≡ up_to (head c) (last_of at)) × (o.declared ≡ None)
-    × IsCallIf (are_typed xs.items) s.context c xs.items o.outcome
-    × (r ≡ record { items = items.Part o ∷ rest; parts = s.parts ++ xs.items; context = s.context })
+CallsOf (items.Call c xs ∷ rest) at s r = EndsCall c xs.items rest at s r
 CallsOf is at s r = r ≡ with_items (below is) s
 
 abbrev pub Calls : ℕ → Stack → Stack → Type 0

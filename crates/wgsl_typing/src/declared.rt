@@ -85,12 +85,11 @@ impl<'t> Expressions<'t> {
         ensures name { result ≡ name_on (stack self.old).items }
         ensures rest { stack self.new ≡ with_items (below (stack self.old).items) (stack self.old) }
     {
-        let Some(top) = self.items.pop() else {
-            return 0;
+        let count = match self.items.last() {
+            Some(Item::Name(count)) => *count,
+            _ => 0,
         };
-        let Item::Name(count) = top else {
-            return 0;
-        };
+        self.drop_top();
         count
     }
 
@@ -114,7 +113,7 @@ impl<'t> Expressions<'t> {
             return None;
         };
         let space = *space;
-        self.items.pop();
+        self.drop_top();
         Some(space)
     }
 

@@ -112,9 +112,7 @@ impl<'t> Expressions<'t> {
         let part = self.take_part()?;
         let outcome = self.outcome_of_element(bracket, &part, &index)?;
         let place = part.place.up_to(Place::last_of(count));
-        self.note(part)?;
-        self.note(index)?;
-        self.put(place, outcome)
+        self.put_of(place, outcome, part, index)
     }
 
     /// What an element is whose `[` is the last of that many tokens.

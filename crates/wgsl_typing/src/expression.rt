@@ -81,12 +81,11 @@ impl<'t> Expressions<'t> {
         ensures sign { result ≡ sign_on (stack self.old).items }
         ensures rest { stack self.new ≡ with_items (below (stack self.old).items) (stack self.old) }
     {
-        let Some(top) = self.items.pop() else {
-            return 0;
+        let count = match self.items.last() {
+            Some(Item::Sign(count)) => *count,
+            _ => 0,
         };
-        let Item::Sign(count) = top else {
-            return 0;
-        };
+        self.drop_top();
         count
     }
 

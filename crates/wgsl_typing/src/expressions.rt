@@ -4,7 +4,7 @@ ghost use Rattle.wgsl_core.specs.View.{view};
 ghost use Rattle.wgsl_forms.specs.Views.{answer_view, form_type_view};
 ghost use Rattle.wgsl_typing.specs.Faults.{IsTold, IsToldIf};
 ghost use Rattle.wgsl_typing.specs.Declarations.{answer_of};
-ghost use Rattle.wgsl_typing.specs.Stacks.{stack, with_item, with_parts};
+ghost use Rattle.wgsl_typing.specs.Stacks.{below, stack, with_item, with_items, with_parts};
 ghost use Rattle.wgsl_typing.specs.Words.{kind_at, kind_of_any, word_at};
 
 use crate::extension::Extensions;
@@ -164,6 +164,13 @@ impl<'t> Expressions<'t> {
     {
         self.items.push(item)?;
         Ok(())
+    }
+
+    /// Lets go of the item on top.
+    pub fn drop_top(&mut self)
+        ensures { stack self.new ≡ with_items (below (stack self.old).items) (stack self.old) }
+    {
+        self.items.pop();
     }
 
     /// Notes an expression that is used.

@@ -68,17 +68,13 @@ impl<'t> Expressions<'t> {
         ensures taken { IfOk result (λ item. TakesIf (is_array (called_on (context self.old) (stack self.old).items)) (context self.old) (reverse list.old.items)
             (reverse list.new.items) self.old.parts.items self.new.parts.items) }
     {
-        match self.items.pop() {
-            Some(Item::Name(named)) => {
-                let listed = self.listed(named, list)?;
-                Ok(Item::Listed(Place::last_of(named).up_to(Place::last_of(count)), listed))
-            }
-            Some(other) => {
-                self.items.push(other)?;
-                Ok(Item::Space(self.space_listed(count, list)?))
-            }
-            None => Ok(Item::Space(self.space_listed(count, list)?)),
-        }
+        let Some(Item::Name(named)) = self.items.last() else {
+            return Ok(Item::Space(self.space_listed(count, list)?));
+        };
+        let named = *named;
+        self.drop_top();
+        let listed = self.listed(named, list)?;
+        Ok(Item::Listed(Place::last_of(named).up_to(Place::last_of(count)), listed))
     }
 
     /// Notes the expressions that are left of a list, whose first item stands last.
