@@ -5,6 +5,8 @@ ghost use Rattle.wgsl_core.specs.Answer.{refusal};
 ghost use Rattle.wgsl_core.specs.Fields.{fields_of, fields_view, message_with};
 
 use crate::error::Error;
+use crate::error::fields::Field::{Absent, Number, Text};
+use crate::error::fields::Texts::{One, Three, Two, Whole};
 use crate::literal::LiteralInstance;
 use crate::signature::CallSignature;
 use crate::ty::Type;
@@ -63,79 +65,39 @@ impl Error {
         ensures { fields_view result ≡ fields_of (refusal self.now) }
     {
         match self {
-            Error::Todo(s) => Fields(0, Field::Text(s.as_str()), Field::Absent, Field::Absent),
-            Error::NotScalar(t) => Fields(0, Field::Type(t), Field::Absent, Field::Absent),
-            Error::NotConstructible(t) => Fields(1, Field::Type(t), Field::Absent, Field::Absent),
-            Error::SampledType(t) => Fields(2, Field::Type(t), Field::Absent, Field::Absent),
-            Error::UnknownType(s) => Fields(
-                1,
-                Field::Text(s.as_str()),
-                Field::Absent,
-                Field::Absent,
-            ),
-            Error::UnexpectedTemplate(s) => Fields(
-                2,
-                Field::Text(s.as_str()),
-                Field::Absent,
-                Field::Absent,
-            ),
-            Error::MissingTemplate(s) => Fields(3, Field::Text(*s), Field::Absent, Field::Absent),
-            Error::WriteRefType(n, t) => Fields(0, Field::Type(n), Field::Type(t), Field::Absent),
-            Error::NotWrite => Fields(0, Field::Absent, Field::Absent, Field::Absent),
-            Error::NotRead => Fields(1, Field::Absent, Field::Absent, Field::Absent),
-            Error::NotReadWrite => Fields(2, Field::Absent, Field::Absent, Field::Absent),
-            Error::PtrHandle => Fields(3, Field::Absent, Field::Absent, Field::Absent),
-            Error::PtrVecComp => Fields(4, Field::Absent, Field::Absent, Field::Absent),
-            Error::Conversion(a, b) => Fields(1, Field::Type(a), Field::Type(b), Field::Absent),
-            Error::ConvOverflow(l, t) => Fields(
-                0,
-                Field::Literal(*l),
-                Field::Type(t),
-                Field::Absent,
-            ),
-            Error::Component(t, s) => Fields(
-                0,
-                Field::Type(t),
-                Field::Text(s.as_str()),
-                Field::Absent,
-            ),
-            Error::NotIndexable(t) => Fields(3, Field::Type(t), Field::Absent, Field::Absent),
-            Error::OutOfBounds(i, t, n) => Fields(
-                0,
-                Field::Number(*i),
-                Field::Type(t),
-                Field::Number(*n),
-            ),
-            Error::Unary(o, t) => Fields(0, Field::Unary(*o), Field::Type(t), Field::Absent),
+            Error::Todo(s) => Fields(0, Text(s.as_str()), Absent, Absent),
+            Error::NotScalar(t) => Fields(0, Field::Type(t), Absent, Absent),
+            Error::NotConstructible(t) => Fields(1, Field::Type(t), Absent, Absent),
+            Error::SampledType(t) => Fields(2, Field::Type(t), Absent, Absent),
+            Error::UnknownType(s) => Fields(1, Text(s.as_str()), Absent, Absent),
+            Error::UnexpectedTemplate(s) => Fields(2, Text(s.as_str()), Absent, Absent),
+            Error::MissingTemplate(s) => Fields(3, Text(*s), Absent, Absent),
+            Error::WriteRefType(n, t) => Fields(0, Field::Type(n), Field::Type(t), Absent),
+            Error::NotWrite => Fields(0, Absent, Absent, Absent),
+            Error::NotRead => Fields(1, Absent, Absent, Absent),
+            Error::NotReadWrite => Fields(2, Absent, Absent, Absent),
+            Error::PtrHandle => Fields(3, Absent, Absent, Absent),
+            Error::PtrVecComp => Fields(4, Absent, Absent, Absent),
+            Error::Conversion(a, b) => Fields(1, Field::Type(a), Field::Type(b), Absent),
+            Error::ConvOverflow(l, t) => Fields(0, Field::Literal(*l), Field::Type(t), Absent),
+            Error::Component(t, s) => Fields(0, Field::Type(t), Text(s.as_str()), Absent),
+            Error::NotIndexable(t) => Fields(3, Field::Type(t), Absent, Absent),
+            Error::OutOfBounds(i, t, n) => Fields(0, Number(*i), Field::Type(t), Number(*n)),
+            Error::Unary(o, t) => Fields(0, Field::Unary(*o), Field::Type(t), Absent),
             Error::Binary(o, a, b) => Fields(0, Field::Binary(*o), Field::Type(a), Field::Type(b)),
-            Error::CompwiseBinary(a, b) => Fields(2, Field::Type(a), Field::Type(b), Field::Absent),
-            Error::AddOverflow => Fields(5, Field::Absent, Field::Absent, Field::Absent),
-            Error::SubOverflow => Fields(6, Field::Absent, Field::Absent, Field::Absent),
-            Error::MulOverflow => Fields(7, Field::Absent, Field::Absent, Field::Absent),
-            Error::DivByZero => Fields(8, Field::Absent, Field::Absent, Field::Absent),
-            Error::RemZeroDiv => Fields(9, Field::Absent, Field::Absent, Field::Absent),
-            Error::ShlOverflow(n, l) => Fields(
-                0,
-                Field::Number(*n as usize),
-                Field::Literal(*l),
-                Field::Absent,
-            ),
-            Error::ShrOverflow(n, l) => Fields(
-                1,
-                Field::Number(*n as usize),
-                Field::Literal(*l),
-                Field::Absent,
-            ),
-            Error::Signature(c) => Fields(0, Field::Call(c), Field::Absent, Field::Absent),
-            Error::Builtin(s) => Fields(4, Field::Text(*s), Field::Absent, Field::Absent),
-            Error::TemplateArgs(s) => Fields(5, Field::Text(*s), Field::Absent, Field::Absent),
-            Error::ParamCount(s, e, n) => Fields(
-                0,
-                Field::Text(s.as_str()),
-                Field::Number(*e),
-                Field::Number(*n),
-            ),
-            Error::ParamType(e, t) => Fields(3, Field::Type(e), Field::Type(t), Field::Absent),
+            Error::CompwiseBinary(a, b) => Fields(2, Field::Type(a), Field::Type(b), Absent),
+            Error::AddOverflow => Fields(5, Absent, Absent, Absent),
+            Error::SubOverflow => Fields(6, Absent, Absent, Absent),
+            Error::MulOverflow => Fields(7, Absent, Absent, Absent),
+            Error::DivByZero => Fields(8, Absent, Absent, Absent),
+            Error::RemZeroDiv => Fields(9, Absent, Absent, Absent),
+            Error::ShlOverflow(n, l) => Fields(0, Number(*n as usize), Field::Literal(*l), Absent),
+            Error::ShrOverflow(n, l) => Fields(1, Number(*n as usize), Field::Literal(*l), Absent),
+            Error::Signature(c) => Fields(0, Field::Call(c), Absent, Absent),
+            Error::Builtin(s) => Fields(4, Text(*s), Absent, Absent),
+            Error::TemplateArgs(s) => Fields(5, Text(*s), Absent, Absent),
+            Error::ParamCount(s, e, n) => Fields(0, Text(s.as_str()), Number(*e), Number(*n)),
+            Error::ParamType(e, t) => Fields(3, Field::Type(e), Field::Type(t), Absent),
         }
     }
 
@@ -143,82 +105,69 @@ impl Error {
         ensures { message_with result (fields_of (refusal self.now)) ≡ message (refusal self.now) }
     {
         match self {
-            Error::Todo(_) => Texts::One("not implemented: `", "`"),
-            Error::NotScalar(_) => Texts::One("expected a scalar type, got `", "`"),
-            Error::NotConstructible(_) => Texts::One("`", "` is not constructible"),
-            Error::SampledType(_) => Texts::One(
+            Error::Todo(_) => One("not implemented: `", "`"),
+            Error::NotScalar(_) => One("expected a scalar type, got `", "`"),
+            Error::NotConstructible(_) => One("`", "` is not constructible"),
+            Error::SampledType(_) => One(
                 "invalid sampled type, expected `i32`, `u32` or `f32`, got `",
                 "`",
             ),
-            Error::UnknownType(_) => Texts::One("unknown type `", "`"),
-            Error::UnexpectedTemplate(_) => Texts::One(
-                "type `",
-                "` does not take any template arguments",
-            ),
-            Error::MissingTemplate(_) => Texts::One("missing template arguments for type `", "`"),
-            Error::WriteRefType(_, _) => Texts::Two(
-                "cannot write a `",
-                "` to a reference to `",
-                "`",
-            ),
-            Error::NotWrite => Texts::Whole("attempt to write to a read-only reference"),
-            Error::NotRead => Texts::Whole("attempt to read a write-only reference"),
-            Error::NotReadWrite => Texts::Whole("reference is not read-write"),
-            Error::PtrHandle => Texts::Whole("cannot create a pointer in `handle` address space"),
-            Error::PtrVecComp => Texts::Whole("cannot create a pointer to a vector component"),
-            Error::Conversion(_, _) => Texts::Two("cannot convert from `", "` to `", "`"),
-            Error::ConvOverflow(_, _) => Texts::Two("overflow while converting `", "` to `", "`"),
-            Error::Component(_, _) => Texts::Two("`", "` has no component `", "`"),
-            Error::NotIndexable(_) => Texts::One("`", "` cannot be indexed"),
-            Error::OutOfBounds(_, _, _) => Texts::Three(
+            Error::UnknownType(_) => One("unknown type `", "`"),
+            Error::UnexpectedTemplate(_) => One("type `", "` does not take any template arguments"),
+            Error::MissingTemplate(_) => One("missing template arguments for type `", "`"),
+            Error::WriteRefType(_, _) => Two("cannot write a `", "` to a reference to `", "`"),
+            Error::NotWrite => Whole("attempt to write to a read-only reference"),
+            Error::NotRead => Whole("attempt to read a write-only reference"),
+            Error::NotReadWrite => Whole("reference is not read-write"),
+            Error::PtrHandle => Whole("cannot create a pointer in `handle` address space"),
+            Error::PtrVecComp => Whole("cannot create a pointer to a vector component"),
+            Error::Conversion(_, _) => Two("cannot convert from `", "` to `", "`"),
+            Error::ConvOverflow(_, _) => Two("overflow while converting `", "` to `", "`"),
+            Error::Component(_, _) => Two("`", "` has no component `", "`"),
+            Error::NotIndexable(_) => One("`", "` cannot be indexed"),
+            Error::OutOfBounds(_, _, _) => Three(
                 "index `",
                 "` is out-of-bounds for `",
                 "` of `",
                 "` components",
             ),
-            Error::Unary(_, _) => Texts::Two("cannot use unary operator `", "` on type `", "`"),
-            Error::Binary(_, _, _) => Texts::Three(
+            Error::Unary(_, _) => Two("cannot use unary operator `", "` on type `", "`"),
+            Error::Binary(_, _, _) => Three(
                 "cannot use binary operator `",
                 "` with operands `",
                 "` and `",
                 "`",
             ),
-            Error::CompwiseBinary(_, _) => Texts::Two(
+            Error::CompwiseBinary(_, _) => Two(
                 "cannot apply component-wise binary operation on operands `",
                 "` and `",
                 "`",
             ),
-            Error::AddOverflow => Texts::Whole("attempt to add with overflow"),
-            Error::SubOverflow => Texts::Whole("attempt to subtract with overflow"),
-            Error::MulOverflow => Texts::Whole("attempt to multiply with overflow"),
-            Error::DivByZero => Texts::Whole("attempt to divide by zero"),
-            Error::RemZeroDiv => Texts::Whole(
-                "attempt to calculate the remainder with a divisor of zero",
-            ),
-            Error::ShlOverflow(_, _) => Texts::Two(
+            Error::AddOverflow => Whole("attempt to add with overflow"),
+            Error::SubOverflow => Whole("attempt to subtract with overflow"),
+            Error::MulOverflow => Whole("attempt to multiply with overflow"),
+            Error::DivByZero => Whole("attempt to divide by zero"),
+            Error::RemZeroDiv => Whole("attempt to calculate the remainder with a divisor of zero"),
+            Error::ShlOverflow(_, _) => Two(
                 "attempt to shift left by `",
                 "`, which would overflow `",
                 "`",
             ),
-            Error::ShrOverflow(_, _) => Texts::Two(
+            Error::ShrOverflow(_, _) => Two(
                 "attempt to shift right by `",
                 "`, which would overflow `",
                 "`",
             ),
-            Error::Signature(_) => Texts::One("invalid function call signature: `", "`"),
-            Error::Builtin(_) => Texts::One("", ""),
-            Error::TemplateArgs(_) => Texts::One("invalid template arguments to `", "`"),
-            Error::ParamCount(_, _, _) => Texts::Three(
+            Error::Signature(_) => One("invalid function call signature: `", "`"),
+            Error::Builtin(_) => One("", ""),
+            Error::TemplateArgs(_) => One("invalid template arguments to `", "`"),
+            Error::ParamCount(_, _, _) => Three(
                 "incorrect number of arguments to `",
                 "`, expected `",
                 "`, got `",
                 "`",
             ),
-            Error::ParamType(_, _) => Texts::Two(
-                "invalid parameter type, expected `",
-                "`, got `",
-                "`",
-            ),
+            Error::ParamType(_, _) => Two("invalid parameter type, expected `", "`, got `", "`"),
         }
     }
 }
