@@ -20,7 +20,6 @@ use crate::structs::behind;
 use crate::value::Value;
 use std::alloc::{AllocError, Global};
 use wgsl_constants::constant::Constant;
-use wgsl_constants::vector::COMPONENTS;
 use wgsl_core::ty::form::Form;
 use wgsl_core::ty::{StructMemberType, StructType, Type};
 use wgsl_forms::index::type_of_index;
@@ -148,17 +147,16 @@ impl<'t> Expressions<'t> {
     {
         let stage = x.stage.later(i.stage);
         let form = type_of_index(&x.operand(), &i.operand());
-        let Outcome::Typed(mut made) = self.of_form(Place::last_of(bracket), form, stage)? else {
-            return Ok(Outcome::Faulty);
-        };
-        if let Some(Value::One(Constant::Integer(integer))) = i.value {
+        let outcome = self.of_form(Place::last_of(bracket), form, stage)?;
+        if let (Outcome::Typed(_), Some(Value::One(Constant::Integer(integer)))) = (
+            &outcome, i.value,
+        ) {
             if self.is_evaluated() && !is_in_bounds(&x.ty, integer.value()) {
                 self.tell(Rule::Value, at, "this index is out of bounds")?;
                 return Ok(Outcome::Faulty);
             }
-            made.value = component_at(x.value, integer.value());
         }
-        Ok(Outcome::Typed(made))
+        Ok(outcome)
     }
 }
 
@@ -205,15 +203,6 @@ fn is_in_bounds(ty: &Type, index: i64) -> bool {
         _ => i64::MAX,
     };
     0 <= index && index < count
-}
-
-/// The component of a vector whose value is known, by its index.
-fn component_at(value: Option<Value>, index: i64) -> Option<Value> {
-    let Some(Value::Several(vector)) = value else {
-        return None;
-    };
-    let which = COMPONENTS.get(usize::try_from(index).ok()?)?;
-    Some(Value::One(Constant::Integer(vector.component(*which)?)))
 }
 
 /// A component of a vector whose value is known.
