@@ -223,7 +223,7 @@ impl<'t> Checker<'t> {
             None => true,
         };
         let is_large = match size {
-            Some(size) => size >= least.unwrap_or(u32::MAX),
+            Some(size) => matches!(least, Some(least) if size >= least),
             None => true,
         };
         if is_aligned && is_large {
