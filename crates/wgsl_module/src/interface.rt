@@ -272,6 +272,9 @@ impl<'t> Checker<'t> {
         let Some(index) = index else {
             return Ok(false);
         };
+        if !self.check_io(field, ty)? {
+            return Ok(false);
+        }
         let Some(interface) = self.take_interface(index) else {
             return Ok(true);
         };
