@@ -94,14 +94,31 @@ impl<'t> Checker<'t> {
             self.tell_name(Rule::Syntax, count, "is no severity")?;
             self.suggest(count, Cause::Expected(Expected::Severity))?;
         }
-        match is_attribute && self.owner != Owner::Function {
-            true => Ok(()),
-            false => self.put_filter(count),
+        if is_attribute && self.owner == Owner::Statement && !self.is_behind_filter(named) {
+            self.filters.clear();
         }
+        self.put_filter(is_attribute, count)
     }
 
-    /// `diagnostic(off, a)`: each rule is filtered with one severity (WGSL, "Diagnostic Filtering").
-    fn put_filter(&mut self, count: usize) -> Result<(), AllocError>
+    /// Whether the attribute whose name is the last of that many tokens stands right behind one that filters a rule.
+    fn is_behind_filter(&self, named: usize) -> bool {
+        for (_, severity) in &self.filters {
+            let mut end = severity.saturating_add(3);
+            if self.expressions.token_before(end).kind == Kind::Period {
+                end = end.saturating_add(2);
+            }
+            if self.expressions.token_before(end).kind == Kind::Comma {
+                end = end.saturating_add(1);
+            }
+            if named == end.saturating_add(2) {
+                return true;
+            }
+        }
+        false
+    }
+
+    /// `diagnostic(off, a)`: each rule is filtered with one severity, and by one attribute (WGSL, "Diagnostic Filtering").
+    fn put_filter(&mut self, is_attribute: bool, count: usize) -> Result<(), AllocError>
         ensures { Keeps (state self.old) (state self.new) }
     {
         let (alloc, rule) = (self.expressions.alloc, count.saturating_add(2));
@@ -114,6 +131,9 @@ impl<'t> Checker<'t> {
         match self.filters.get(name.as_str()).copied() {
             Some(first) if self.word(first) != self.word(count) => {
                 self.tell_name(Rule::Duplicate, rule, "has another severity above")
+            }
+            Some(_) if is_attribute => {
+                self.tell_name(Rule::Duplicate, rule, "is filtered twice")
             }
             Some(_) => Ok(()),
             None => {
