@@ -374,13 +374,13 @@ impl<'t> Checker<'t> {
             }
             places.push(part.place)?;
         }
-        if self.agreed(&operands, &places)?.is_none() {
+        let Some(ty) = self.agreed(&operands, &places)? else {
             return Ok(None);
-        }
+        };
         for part in parts {
             let is_early = matches!(part.typed(), Some(typed) if typed.stage.is_early());
             let size = part.integer().unwrap_or(1);
-            if !is_early || size == 0 || u32::try_from(size).is_err() {
+            if !is_early || size < 1 || size > most_of(&ty) {
                 let message =
                     "a workgroup's size is a positive 32-bit integer, known before the shader runs";
                 self.tell(Rule::EntryPoint, part.place, message)?;
@@ -388,6 +388,14 @@ impl<'t> Checker<'t> {
             }
         }
         Ok(Some(None))
+    }
+}
+
+/// The greatest integer of a type; an AbstractInt stands for an `i32`.
+fn most_of(ty: &Type) -> i64 {
+    match ty {
+        Type::U32 => 0xFFFF_FFFF,
+        _ => 0x7FFF_FFFF,
     }
 }
 
