@@ -344,9 +344,9 @@ impl<'t> Checker<'t> {
         };
         let is_integer = matches!(typed.ty, Type::AbstractInt | Type::I32 | Type::U32);
         let is_positive = matches!(name, Name::Align | Name::Size);
-        let most = match typed.ty {
-            Type::U32 => 0xFFFF_FFFF,
-            _ => 0x7FFF_FFFF,
+        let most = match name {
+            Name::BlendSrc => 1,
+            _ => most_of(&typed.ty),
         };
         let message = match part.integer() {
             _ if !is_integer || !typed.stage.is_const() => {
