@@ -69,6 +69,11 @@ fn structs_are_made_of_their_members() {
         ("AbstractFloat", "incorrect number of arguments to `S`, expected `2`, got `1`"),
         ("f32, AbstractFloat", "invalid parameter type, expected `i32`, got `AbstractFloat`"),
         ("bool, bool", "invalid parameter type, expected `f32`, got `bool`"),
+        ("ref<private, f32, read>, i32", "fits"),
+        (
+            "f32, ref<private, i32, write>",
+            "invalid parameter type, expected `i32`, got `ref<private, i32, write>`",
+        ),
     ] {
         let found = match typecheck_struct_ctor(&of, &types(args)) {
             Ok(()) => "fits".to_string(),
