@@ -80,6 +80,8 @@ fn layouts() {
     assert_eq!(of.layout(), Some(StructLayout { members, size: 32, align: 16 }));
     assert_eq!((of.size_of(), of.align_of()), (Some(32), Some(16)));
     assert_eq!(of.offsets(), Some(vec![0, 16, 28]));
+    let flags = StructType::new("F", [("a", Type::vector(3, Bool))]);
+    assert_eq!((flags.layout(), flags.offsets()), (None, None));
     let empty = StructType { name: "E".to_string(), members: vec![] };
     assert_eq!((empty.size_of(), empty.align_of(), empty.layout()), (None, Some(0), None));
 }
