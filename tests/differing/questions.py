@@ -2,11 +2,11 @@
 and struct constructors, `&`, `*` and ray queries have no overloads, so no question is about them."""
 import itertools
 
-from overloads.calls import FEWER, Calls, sources
+from overloads.calls import FEWER, Calls
 from overloads.facts import read_facts
-from spelling import OWN_SCALARS, SCALARS, is_abstract, parts_of
+from spelling import OWN_SCALARS, SCALARS
 
-OWN = [shape % scalar for shape in ("%s", "vec2<%s>") for scalar in OWN_SCALARS]
+OWN = [shape % scalar for shape in ("%s", "vec2<%s>", "vec3<%s>") for scalar in OWN_SCALARS]
 # What stands in place of types, so that two arguments at once are of others.
 COUNTS = ["u32", "AbstractInt", "i32", "AbstractFloat", "vec2<u32>", "ref<function, u32, read_write>"]
 
@@ -27,7 +27,7 @@ class Questions(Calls):
                     yield from self.asked(name, None, [f"vec{rows}<{scalar}>"] * (int(name[3]) + more))
 
     def of_bits(self):
-        for pair in itertools.product(FEWER, repeat=2):
+        for pair in itertools.product(FEWER + OWN, repeat=2):
             yield from self.asked("insertBits", None, [*pair, *self.rng.choices(COUNTS, k=2)])
 
     def of_own_templates(self):
