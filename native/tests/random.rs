@@ -1,9 +1,9 @@
 //! Random numbers, types and calls.
 
+use crate::{asked::one_type, tables::rows};
+use std::sync::LazyLock;
 use wgsl_types_proved::standard::Operand;
-use wgsl_types_proved::syntax::{AccelerationStructureFlags, AccessMode, AddressSpace};
-use wgsl_types_proved::syntax::{BinaryOperator, SampledType, TexelFormat, UnaryOperator};
-use wgsl_types_proved::ty::{SamplerType, StructMemberType, StructType, TextureType};
+use wgsl_types_proved::syntax::{AccessMode, AddressSpace, BinaryOperator, UnaryOperator};
 use wgsl_types_proved::Type;
 use AddressSpace::{Function, Handle, Private, PushConstant, Storage, Uniform, Workgroup};
 use Type::{AbstractFloat, AbstractInt, Bool, F16, F32, F64, I32, I64, U32, U64};
@@ -13,20 +13,11 @@ const SPACES: [AddressSpace; 7] =
     [Function, Private, Workgroup, Uniform, Storage, Handle, PushConstant];
 const ACCESS_MODES: [AccessMode; 4] =
     [AccessMode::Read, AccessMode::Write, AccessMode::ReadWrite, AccessMode::Atomic];
-const FLAGS: [Option<AccelerationStructureFlags>; 2] =
-    [None, Some(AccelerationStructureFlags::VertexReturn)];
-const TEXTURES: [TextureType; 8] = [
-    TextureType::Sampled2D(SampledType::F32),
-    TextureType::SampledCubeArray(SampledType::U32),
-    TextureType::Multisampled2DArray(SampledType::I32),
-    TextureType::DepthMultisampled2D,
-    TextureType::Storage1D(TexelFormat::Rgba8Unorm, AccessMode::Write),
-    TextureType::Storage3D(TexelFormat::R64Uint, AccessMode::Atomic),
-    TextureType::External,
-    TextureType::DepthCubeArray,
-];
 const CALLED: &str = "array f32 u32 vec2 vec3 vec4 mat2x2 mat3x2 bitcast min clamp dot select frexp modf abs length \
     transpose countOneBits pow insertBits arrayLength workgroupBarrier no_such_name";
+
+static STRANGE: LazyLock<Vec<Type>> =
+    LazyLock::new(|| rows("tables/strange.tsv").iter().map(|[text]| one_type(text)).collect());
 
 /// Numbers by Marsaglia's xorshift.
 pub struct Random(u64);
@@ -48,59 +39,13 @@ impl Random {
         values[self.number(values.len())].clone()
     }
 
-    fn count(&mut self) -> Option<usize> {
-        [None, Some(0), Some(2), Some(4), Some(usize::MAX)][self.number(5)]
-    }
-
-    fn attribute(&mut self) -> Option<u32> {
-        [None, None, None, Some(0), Some(4), Some(16), Some(u32::MAX)][self.number(7)]
-    }
-
-    /// A type that is nested at most `levels` deep.
-    pub fn ty(&mut self, levels: usize) -> Type {
-        if levels == 1 || self.number(3) == 0 {
-            return self.leaf();
-        }
-        let inner = Box::new(self.ty(levels - 1));
-        match self.number(9) {
-            0 | 1 => Type::Vec(self.number(5) as u8, inner),
-            2 => Type::Mat(self.number(5) as u8, self.number(5) as u8, inner),
-            3 => Type::Array(inner, self.count()),
-            4 => Type::Atomic(inner),
-            5 => Type::Ptr(self.of(&SPACES), inner, self.of(&ACCESS_MODES)),
-            6 => Type::Ref(self.of(&SPACES), inner, self.of(&ACCESS_MODES)),
-            7 => Type::BindingArray(inner, self.count()),
-            _ => self.structure(levels),
-        }
-    }
-
-    fn leaf(&mut self) -> Type {
-        match self.number(12) {
-            0 => Type::Texture(self.of(&TEXTURES)),
-            1 => Type::Sampler(self.of(&[SamplerType::Sampler, SamplerType::SamplerComparison])),
-            2 => Type::RayQuery(self.of(&FLAGS)),
-            3 => Type::AccelerationStructure(self.of(&FLAGS)),
-            _ => self.of(&SCALARS),
-        }
-    }
-
-    fn structure(&mut self, levels: usize) -> Type {
-        let members = (0..self.number(4)).map(|index| {
-            let (ty, size, align) = (self.ty(levels - 1), self.attribute(), self.attribute());
-            let name = ["a", "größe", "long_name"][index].to_string();
-            StructMemberType { name, ty, size, align }
-        });
-        let members = members.collect();
-        Type::from(StructType { name: self.of(&["S", "Struct", "名"]).to_string(), members })
-    }
-
     /// A scalar or a vector, mostly.
     fn value(&mut self) -> Type {
         let scalar = self.of(&SCALARS);
         match self.number(6) {
             0 | 1 => Type::vector(2 + self.number(2) as u8, scalar),
             2 => Type::matrix(2 + self.number(2) as u8, 2, scalar),
-            3 => self.ty(2),
+            3 => self.of(&STRANGE),
             _ => scalar,
         }
     }
