@@ -6,19 +6,12 @@ use wgsl_types_proved::conv::{
     conversion_rank, convert, convert_all, convert_all_inner_to, convert_all_to, convert_all_ty,
     convert_inner, convert_ty, rank_steps, Convert,
 };
-use wgsl_types_proved::inst::LiteralInstance;
 use wgsl_types_proved::ty::StructType;
-use wgsl_types_proved::{Instance, Type};
+use wgsl_types_proved::Type;
 
 /// A type as it is spelled, or `none`.
 fn spelled(ty: Option<Type>) -> String {
     ty.map_or("none".to_string(), |ty| ty.to_string())
-}
-
-#[test]
-fn literals_convert_as_their_types() {
-    let converts = |literal| Instance::Literal(literal).is_convertible_to(&Type::F32);
-    assert!(converts(LiteralInstance::AbstractInt(1)) && !converts(LiteralInstance::I32(1)));
 }
 
 /// Two values as they are spelled, or `none`.

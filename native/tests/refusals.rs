@@ -2,7 +2,7 @@
 
 use crate::asked::{one_type, parameters, types};
 use crate::tables::rows;
-use wgsl_types_proved::builtin::{type_builtin_fn, typecheck_struct_ctor};
+use wgsl_types_proved::builtin::typecheck_struct_ctor;
 use wgsl_types_proved::inst::LiteralInstance as Literal;
 use wgsl_types_proved::syntax::{BinaryOperator::ShortCircuitOr, UnaryOperator::AddressOf};
 use wgsl_types_proved::CallSignature;
@@ -47,16 +47,6 @@ fn refusals_differ_if_they_say_different_things() {
         for (other_index, other) in refusals.iter().enumerate() {
             assert_eq!(one == other, index == other_index, "{one} and {other}");
         }
-    }
-}
-
-#[test]
-fn a_name_is_found_whole_or_not_at_all() {
-    assert_eq!(type_builtin_fn("abs", None, &[F32]), Ok(Some(F32)));
-    for name in ["", "ab", "absA", "zz"] {
-        let signature = CallSignature { name: name.to_string(), tplt: None, args: vec![F32] };
-        let refused = Err(Signature(signature));
-        assert_eq!(type_builtin_fn(name, None, &[F32]), refused, "{name}");
     }
 }
 

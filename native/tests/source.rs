@@ -80,14 +80,6 @@ fn address_spaces_hold_what_browsers_let_them_hold() {
 }
 
 #[test]
-fn large_modules_need_more_room_than_text() {
-    let structs: String = (0..2000).map(|at| format!("struct S{at}{{a:f32,b:u32}}")).collect();
-    let module = layouts(structs);
-    assert_eq!(module.structs.len(), 2000);
-    assert!(module.structs.iter().all(|of| of.size == 8));
-}
-
-#[test]
 fn declared_types_are_types() {
     let text = include_str!("../../tests/sourced/every_form.wgsl");
     let (module, types) = (layouts(text), types(text));

@@ -1,7 +1,7 @@
 //! Worked examples: the requests of `tests/lines`, and what no request asks.
 
 use std::{fs, thread};
-use wgsl_types_proved::builtin::{type_builtin_fn, type_ctor};
+use wgsl_types_proved::builtin::type_builtin_fn;
 use wgsl_types_proved::conv::{convert_all, convert_all_ty, convert_ty};
 use wgsl_types_proved::mem::{PlacedMember, StructLayout};
 use wgsl_types_proved::requests::{answer, standard_answer, Error as NoAnswer};
@@ -9,7 +9,7 @@ use wgsl_types_proved::syntax::{
     AccessMode, AddressSpace, BinaryOperator, Enumerant, TexelFormat, UnaryOperator,
 };
 use wgsl_types_proved::ty::{SamplerType, StructType, MAX_DEPTH};
-use wgsl_types_proved::{CallSignature, Error, Type};
+use wgsl_types_proved::{Error, Type};
 use Type::{Bool, F32, I32};
 
 /// Each request has the answer behind its last ` => `, where `\n` parts two lines; one with `bad line` can't be read.
@@ -64,12 +64,6 @@ fn result_structs() {
     let result = type_builtin_fn("frexp", None, &[vec2(F32)]).unwrap().unwrap().unwrap_struct();
     let members = [("fract", vec2(F32)), ("exp", vec2(I32))];
     assert_eq!(*result, StructType::new("__frexp_result_vec2_f32", members));
-}
-
-#[test]
-fn constructors_that_nothing_is() {
-    let signature = CallSignature { name: "vec5".to_string(), tplt: None, args: vec![] };
-    assert_eq!(type_ctor("vec5", None, &[]), Err(Error::Signature(signature)));
 }
 
 #[test]
