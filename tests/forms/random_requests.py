@@ -29,8 +29,11 @@ TYPE = re.compile(rf"(?<!\w)(?:(?:{SCALAR}|(?:vec|mat|array|binding_array|atomic
 FRONT = re.compile(r"(?:struct \w+ \{[^}]*\} )*")
 
 
-def declared(text, at):
-    return text[:at].endswith((": ", "<"))
+def place_of(text, at):
+    """Where a type stands: in a struct that is laid out, where types are declared or inside of another, or as an operand."""
+    if "layout" in text:
+        return "laid out"
+    return "declared" if text[:at].endswith((": ", "<")) else "operand"
 
 
 def spans(text):
@@ -41,12 +44,12 @@ def spans(text):
 class Random(random.Random):
     def __init__(self, seed):
         super().__init__(seed)
-        self.questions = [request for request, *_ in texts("forms/questions.txt")]
-        found = [(request, match) for request in self.questions for match in spans(request)]
-        kind = lambda request, match: "layout" if "layout" in request else declared(request, match.start())  # noqa: E731
-        self.types = {name: [of[0] for request, of in found if kind(request, of) == name] for name in (True, False, "layout")}
+        self.questions, self.types = [request for request, *_ in texts("forms/questions.txt")], {}
+        for request in self.questions:
+            for match in spans(request):
+                self.types.setdefault(place_of(request, match.start()), []).append(match[0])
         # One with an attribute for its size has a size.
-        self.types["layout"] = [t for t in self.types["layout"] if not is_runtime_sized(t)]
+        self.types["laid out"] = [t for t in self.types["laid out"] if not is_runtime_sized(t)]
 
     def scalar(self, around, scalars):
         if around.startswith("mat"):
@@ -64,23 +67,23 @@ class Random(random.Random):
             t = re.sub(rf"(mat\dx\d<|atomic<|)({SCALAR})", lambda found: found[1] + self.scalar(found[1], scalars), t)
         return t
 
-    def other(self, kind):
+    def other(self, place):
         """What may stand in place of a type: mostly one of another question."""
-        if kind != "layout" and self.random() < 0.15:
+        if place != "laid out" and self.random() < 0.15:
             return self.choice([*STORED])
-        return self.choice(self.types[kind])
+        return self.choice(self.types[place])
 
     def retyped(self, text):
         """The question with some of its types exchanged, or changed a little."""
-        is_layout, front, found, often = "layout" in text, FRONT.match(text).end(), spans(text), self.choice([0.1, 0.1, 0.4])
+        front, found, often = FRONT.match(text).end(), spans(text), self.choice([0.1, 0.1, 0.4])
         for match in reversed(found):
-            t, (start, end) = match[0], match.span()
-            kind = "layout" if is_layout else declared(text, start)
+            t, (start, end), place = match[0], match.span(), place_of(text, match.start())
+            is_layout = place == "laid out"
             if self.random() < often / 2 and not (is_layout and match is found[-1] or text[:start].endswith("const ")):
-                t = self.other(kind)
+                t = self.other(place)
             if self.random() < often:
                 t = self.near(t, SHARED if is_layout else SCALARS)
-            if kind is False and start > front and self.random() < often / 4 and re.search(r"(?<!const)[ \[(]$", text[:start]):
+            if place == "operand" and start > front and self.random() < often / 4 and re.search(r"(?<!const)[ \[(]$", text[:start]):
                 t = "const " + t if "(" not in t else t
             text = text[:start] + t + text[end:]
         return text
@@ -109,9 +112,8 @@ class Random(random.Random):
 def is_asked(text):
     """Whether the rules answer: of memory of an abstract type no rule says if its value is constant, and vectors of scalars of 64 bits
     may have no alignment."""
-    operator = re.search(r"(\S.*) [-+*/%&|^<>]+= ", text)
     is_own = not set(re.findall(r"\w+", text)).isdisjoint(OWN_SCALARS)
-    if operator:
+    if re.search(r" [-+*/%&|^<>]+= ", text):
         to = TYPE.search(text, FRONT.match(text).end())
         return not is_own and not (to and is_abstract(behind(to[0])))
     return not (is_own and "layout" in text)
