@@ -130,53 +130,75 @@ pub fn behind(ty: &Type) -> &Type
 
 /// The struct that stands for a whole one in types: it has its name, and members of the same facts.
 pub fn short(alloc: Global, whole: &StructType) -> Result<StructType, AllocError> {
-    let facts = facts_of(whole);
-    let leaf = if facts.is_shareable {
-        Type::U32
-    } else {
-        Type::Bool
-    };
-    let atomic = Type::Atomic(Box::new(alloc, Type::U32)?);
     let mut members = Vec::new(alloc);
-    match (facts.is_fixed, facts.ends_with_atomics, facts.ends) {
-        (true, true, true) => members.push(member(alloc, leaf, facts.size, facts.align)?)?,
-        (true, true, false) => {
-            members.push(member(alloc, leaf, Some(0), facts.align)?)?;
-            members.push(member(alloc, atomic, facts.size, facts.align)?)?;
-        }
-        (false, true, true) => {
-            let array = Type::array(alloc, None, leaf)?;
-            members.push(member(alloc, array, None, None)?)?;
-        }
-        (false, true, false) => {
-            let array = Type::array(alloc, None, atomic)?;
-            members.push(member(alloc, leaf, None, None)?)?;
-            members.push(member(alloc, array, None, None)?)?;
-        }
-        (_, false, _) => {
-            let array = Type::array(alloc, Some(1), Type::array(alloc, None, leaf)?)?;
-            members.push(member(alloc, array, None, None)?)?;
-        }
-    }
+    add_members(alloc, facts_of(whole), &mut members)?;
     Ok(StructType {
         name: String::from_str(alloc, whole.name.as_str())?,
         members,
     })
 }
 
-fn member(
+/// Adds members that have these facts.
+fn add_members(alloc: Global, facts: Facts, members: &mut Members) -> Result<(), AllocError> {
+    match (facts.is_fixed, facts.ends_with_atomics, facts.ends) {
+        (true, true, true) => add(alloc, members, facts.leaf(), facts.size, facts.align),
+        (true, true, false) => {
+            add(alloc, members, facts.leaf(), Some(0), facts.align)?;
+            add(alloc, members, atomic(alloc)?, facts.size, facts.align)
+        }
+        (false, true, true) => {
+            add(
+                alloc,
+                members,
+                Type::array(alloc, None, facts.leaf())?,
+                None,
+                None,
+            )
+        }
+        (false, true, false) => {
+            add(alloc, members, facts.leaf(), None, None)?;
+            add(
+                alloc,
+                members,
+                Type::array(alloc, None, atomic(alloc)?)?,
+                None,
+                None,
+            )
+        }
+        (_, false, _) => {
+            let inside = Type::array(alloc, None, facts.leaf())?;
+            add(
+                alloc,
+                members,
+                Type::array(alloc, Some(1), inside)?,
+                None,
+                None,
+            )
+        }
+    }
+}
+
+fn add(
     alloc: Global,
+    members: &mut Members,
     ty: Type,
     size: Option<u32>,
     align: Option<u32>,
-) -> Result<StructMemberType, AllocError> {
-    Ok(StructMemberType {
+) -> Result<(), AllocError> {
+    members.push(StructMemberType {
         name: String::new(alloc),
         ty,
         size,
         align,
-    })
+    })?;
+    Ok(())
 }
+
+fn atomic(alloc: Global) -> Result<Type, AllocError> {
+    Ok(Type::Atomic(Box::new(alloc, Type::U32)?))
+}
+
+type Members = Vec<StructMemberType>;
 
 /// What the rules ask of a struct as a whole.
 #[derive(Clone, Copy)]
@@ -187,6 +209,16 @@ struct Facts {
     is_shareable: bool,
     size: Option<u32>,
     align: Option<u32>,
+}
+
+impl Facts {
+    /// A type without parts that has the fact of being host-shareable or not.
+    fn leaf(&self) -> Type {
+        match self.is_shareable {
+            true => Type::U32,
+            false => Type::Bool,
+        }
+    }
 }
 
 fn facts_of(whole: &StructType) -> Facts {
