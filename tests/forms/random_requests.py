@@ -100,13 +100,16 @@ class Random(random.Random):
         return "." + "".join(self.choices(letters, k=self.choice([1, 1, 1, 2, 3, 4, 5])))
 
     def request(self):
+        """A request behind the structs that it doesn't declare itself; None if one of its own is in these."""
         text = self.retyped(self.renamed(self.choice(self.questions)))
         if self.random() < 0.3:
             text = re.sub(r"\.[a-z]+\b", self.component(), text)
         if self.random() < 0.2:
             text = re.sub(r"\bconst (?!x\b)", "", text)
         text = re.sub(r" [-+*/%&|^<>]+= ", lambda same: f" {self.choice(OPERATORS)}= " if self.random() < 0.4 else same[0], text)
-        return declarations(re.findall(r"\w+", text)) + text
+        own = re.findall(r"struct (\w+)", text)
+        front = declarations(word for word in re.findall(r"\w+", text) if word not in own)
+        return None if set(own) & set(re.findall(r"struct (\w+)", front)) else front + text
 
 
 def is_asked(text):
@@ -124,6 +127,6 @@ def random_requests(count, seed=1):
     found, requests = Random(seed), {}
     while len(requests) < count:
         text = found.request()
-        if is_asked(text):
+        if text and is_asked(text):
             requests[text] = None
     return list(requests)
