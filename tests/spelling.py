@@ -71,13 +71,3 @@ def is_abstract(t):
 def is_value(t):
     """Whether an expression of this type can be a const-expression."""
     return t in SCALARS or t in STRUCTS or parts_of(t)[0].startswith(("vec", "mat", "array"))
-
-
-def is_constructible(t):
-    """Whether a type is concrete and constructible."""
-    if t in STRUCTS:
-        return all(is_constructible(member) for _, member in STRUCTS[t])
-    name, parts = parts_of(t)
-    if name == "array":
-        return len(parts) == 2 and is_constructible(parts[0])
-    return not is_abstract(t) and (t in SCALARS or name.startswith(("vec", "mat")))

@@ -1,24 +1,17 @@
 //! Conversions, ranks, common types, and the candidates that are chosen for operators.
 
-use crate::{asked::types, random::words, tables::rows};
-use wgsl_types_proved::builtin::{binary_candidate, type_builtin_fn};
+use crate::{asked::types, tables::rows};
+use wgsl_types_proved::builtin::{binary_candidate, type_builtin_fn, typecheck_struct_ctor};
 use wgsl_types_proved::conv::{
-    convert, convert_all, convert_all_inner_to, convert_all_to, convert_all_ty, convert_inner,
-    convert_ty, rank_steps, Convert,
+    conversion_rank, convert, convert_all, convert_all_inner_to, convert_all_to, convert_all_ty,
+    convert_inner, convert_ty, rank_steps, Convert,
 };
-use wgsl_types_proved::inst::LiteralInstance;
-use wgsl_types_proved::requests::answer;
-use wgsl_types_proved::{Instance, Type};
+use wgsl_types_proved::ty::StructType;
+use wgsl_types_proved::Type;
 
 /// A type as it is spelled, or `none`.
 fn spelled(ty: Option<Type>) -> String {
     ty.map_or("none".to_string(), |ty| ty.to_string())
-}
-
-#[test]
-fn literals_convert_as_their_types() {
-    let converts = |literal| Instance::Literal(literal).is_convertible_to(&Type::F32);
-    assert!(converts(LiteralInstance::AbstractInt(1)) && !converts(LiteralInstance::I32(1)));
 }
 
 /// Two values as they are spelled, or `none`.
@@ -68,14 +61,14 @@ fn types_convert_as_the_table_says() {
     }
 }
 
-/// The structs that calls give, in words, in threes of one function and shape: of AbstractFloat, f32 and f16.
-fn result_structs() -> Vec<String> {
+/// The structs that calls give, in threes of one function and shape: of AbstractFloat, f32 and f16.
+fn result_structs() -> Vec<Type> {
     let mut results = Vec::new();
     for function in ["frexp", "modf"] {
         for components in 1..=4 {
             results.extend([Type::AbstractFloat, Type::F32, Type::F16].map(|of| {
                 let of = if components == 1 { of } else { Type::vector(components, of) };
-                words(&type_builtin_fn(function, None, &[of]).unwrap().unwrap())
+                type_builtin_fn(function, None, &[of]).unwrap().unwrap()
             }));
         }
     }
@@ -86,16 +79,18 @@ fn result_structs() -> Vec<String> {
 fn result_structs_convert_to_those_of_their_function_and_shape() {
     let results = result_structs();
     assert_eq!(results.len(), 24);
-    for (from, from_words) in results.iter().enumerate() {
-        for (to, to_words) in results.iter().enumerate() {
+    for (from, a) in results.iter().enumerate() {
+        for (to, b) in results.iter().enumerate() {
             let rank = match (from % 3, to % 3) {
-                _ if from == to => "0",
-                (0, 1) if from / 3 == to / 3 => "1",
-                (0, 2) if from / 3 == to / 3 => "2",
-                _ => "none",
+                _ if from == to => Some(0),
+                (0, 1) if from / 3 == to / 3 => Some(1),
+                (0, 2) if from / 3 == to / 3 => Some(2),
+                _ => None,
             };
-            let request = format!("rank {from_words} {to_words}");
-            assert_eq!(answer(&request).as_deref(), Ok(rank), "{request}");
+            assert_eq!(conversion_rank(a, b), rank, "{a} to {b}");
+            let of = StructType::new("S", [("a", b.clone())]);
+            let is_taken = typecheck_struct_ctor(&of, std::slice::from_ref(a)).is_ok();
+            assert_eq!(is_taken, rank.is_some(), "{a} to {b}");
         }
     }
 }

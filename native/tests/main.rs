@@ -8,7 +8,6 @@ mod forms;
 mod long_texts;
 mod modules;
 mod names;
-mod plain;
 mod predeclared;
 #[cfg(feature = "std")]
 mod programs;
@@ -24,6 +23,5 @@ mod spellings;
 mod standard;
 mod tables;
 mod templates;
-mod texts;
 mod types;
 mod worked;

@@ -3,13 +3,14 @@
 use crate::tables::rows;
 use std::fmt::{Debug, Display};
 use std::str::FromStr;
-use wgsl_types_proved::builtin::find_call;
+use wgsl_types_proved::builtin::{find_call, is_ctor, type_ctor};
 use wgsl_types_proved::syntax::{
     AccessMode, AddressSpace, AssignmentOperator, BuiltinValue, ConservativeDepth,
     DiagnosticSeverity, Enumerant, InterpolationSampling, InterpolationType, SampledType,
     TexelFormat,
 };
 use wgsl_types_proved::ty::{TextureDimensions, TextureType};
+use wgsl_types_proved::Error;
 
 /// The value that a text names, as Rust names it, with its own text.
 fn value<T: FromStr<Err = ()> + Display + Debug>(text: &str) -> [String; 2] {
@@ -92,5 +93,31 @@ fn functions_are_found_by_one_comparison() {
             let (index, compared) = find_call(name);
             assert_eq!((index.is_some(), compared), (is_found, 1), "{name}");
         }
+    }
+}
+
+const CONSTRUCTORS: &str = "array bool i32 u32 f32 f16 i64 u64 f64 vec2 vec3 vec4 mat2x2 mat2x3 \
+    mat2x4 mat3x2 mat3x3 mat3x4 mat4x2 mat4x3 mat4x4";
+
+/// Without template and arguments, `Signature` refuses exactly what is no constructor.
+#[test]
+fn constructors_have_these_names_alone() {
+    let others =
+        "AbstractInt AbstractFloat vec mat atomic ptr ref struct sampler binding_array abs Array";
+    let mut names: Vec<String> = others.split(' ').map(str::to_string).collect();
+    for digit in '0'..='9' {
+        names.push(format!("vec{digit}"));
+        names.extend(('0'..='9').map(|other| format!("mat{digit}x{other}")));
+    }
+    for name in CONSTRUCTORS.split(' ') {
+        // Near misses: a byte less, a byte more, another case.
+        names.extend([name, &name[1..], &name[..name.len() - 1]].map(str::to_string));
+        names.extend(["x", "2", " ", "f"].map(|more| format!("{name}{more}")));
+        names.push(name.to_uppercase());
+    }
+    for name in names {
+        let is_listed = CONSTRUCTORS.split(' ').any(|listed| listed == name);
+        let is_called = !matches!(type_ctor(&name, None, &[]), Err(Error::Signature(_)));
+        assert_eq!((is_ctor(&name), is_called), (is_listed, is_listed), "{name}");
     }
 }

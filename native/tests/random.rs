@@ -1,14 +1,10 @@
-//! Random types and calls, and the words of a request for them.
+//! Random numbers, types and calls.
 
-use wgsl_types_proved::inst::LiteralInstance;
+use crate::{asked::one_type, tables::rows};
+use std::sync::LazyLock;
 use wgsl_types_proved::standard::Operand;
-use wgsl_types_proved::syntax::{
-    AccelerationStructureFlags, AccessMode, AddressSpace, BinaryOperator, Enumerant,
-};
-use wgsl_types_proved::syntax::{SampledType, TexelFormat, UnaryOperator};
-use wgsl_types_proved::tplt::TpltParam;
-use wgsl_types_proved::ty::{SamplerType, StructMemberType, StructType, TextureType};
-use wgsl_types_proved::{Instance, Type};
+use wgsl_types_proved::syntax::{AccessMode, AddressSpace, BinaryOperator, UnaryOperator};
+use wgsl_types_proved::Type;
 use AddressSpace::{Function, Handle, Private, PushConstant, Storage, Uniform, Workgroup};
 use Type::{AbstractFloat, AbstractInt, Bool, F16, F32, F64, I32, I64, U32, U64};
 
@@ -17,20 +13,11 @@ const SPACES: [AddressSpace; 7] =
     [Function, Private, Workgroup, Uniform, Storage, Handle, PushConstant];
 const ACCESS_MODES: [AccessMode; 4] =
     [AccessMode::Read, AccessMode::Write, AccessMode::ReadWrite, AccessMode::Atomic];
-const FLAGS: [Option<AccelerationStructureFlags>; 2] =
-    [None, Some(AccelerationStructureFlags::VertexReturn)];
-const TEXTURES: [TextureType; 8] = [
-    TextureType::Sampled2D(SampledType::F32),
-    TextureType::SampledCubeArray(SampledType::U32),
-    TextureType::Multisampled2DArray(SampledType::I32),
-    TextureType::DepthMultisampled2D,
-    TextureType::Storage1D(TexelFormat::Rgba8Unorm, AccessMode::Write),
-    TextureType::Storage3D(TexelFormat::R64Uint, AccessMode::Atomic),
-    TextureType::External,
-    TextureType::DepthCubeArray,
-];
 const CALLED: &str = "array f32 u32 vec2 vec3 vec4 mat2x2 mat3x2 bitcast min clamp dot select frexp modf abs length \
     transpose countOneBits pow insertBits arrayLength workgroupBarrier no_such_name";
+
+static STRANGE: LazyLock<Vec<Type>> =
+    LazyLock::new(|| rows("tables/strange.tsv").iter().map(|[text]| one_type(text)).collect());
 
 /// Numbers by Marsaglia's xorshift.
 pub struct Random(u64);
@@ -52,80 +39,15 @@ impl Random {
         values[self.number(values.len())].clone()
     }
 
-    fn count(&mut self) -> Option<usize> {
-        [None, Some(0), Some(2), Some(4), Some(usize::MAX)][self.number(5)]
-    }
-
-    fn attribute(&mut self) -> Option<u32> {
-        [None, None, None, Some(0), Some(4), Some(16), Some(u32::MAX)][self.number(7)]
-    }
-
-    /// A type that is nested at most `levels` deep.
-    pub fn ty(&mut self, levels: usize) -> Type {
-        if levels == 1 || self.number(3) == 0 {
-            return self.leaf();
-        }
-        let inner = Box::new(self.ty(levels - 1));
-        match self.number(9) {
-            0 | 1 => Type::Vec(self.number(5) as u8, inner),
-            2 => Type::Mat(self.number(5) as u8, self.number(5) as u8, inner),
-            3 => Type::Array(inner, self.count()),
-            4 => Type::Atomic(inner),
-            5 => Type::Ptr(self.of(&SPACES), inner, self.of(&ACCESS_MODES)),
-            6 => Type::Ref(self.of(&SPACES), inner, self.of(&ACCESS_MODES)),
-            7 => Type::BindingArray(inner, self.count()),
-            _ => self.structure(levels),
-        }
-    }
-
-    fn leaf(&mut self) -> Type {
-        match self.number(12) {
-            0 => Type::Texture(self.of(&TEXTURES)),
-            1 => Type::Sampler(self.of(&[SamplerType::Sampler, SamplerType::SamplerComparison])),
-            2 => Type::RayQuery(self.of(&FLAGS)),
-            3 => Type::AccelerationStructure(self.of(&FLAGS)),
-            _ => self.of(&SCALARS),
-        }
-    }
-
-    fn structure(&mut self, levels: usize) -> Type {
-        let members = (0..self.number(4)).map(|index| {
-            let (ty, size, align) = (self.ty(levels - 1), self.attribute(), self.attribute());
-            let name = ["a", "größe", "long_name"][index].to_string();
-            StructMemberType { name, ty, size, align }
-        });
-        let members = members.collect();
-        Type::from(StructType { name: self.of(&["S", "Struct", "名"]).to_string(), members })
-    }
-
     /// A scalar or a vector, mostly.
     fn value(&mut self) -> Type {
         let scalar = self.of(&SCALARS);
         match self.number(6) {
             0 | 1 => Type::vector(2 + self.number(2) as u8, scalar),
             2 => Type::matrix(2 + self.number(2) as u8, 2, scalar),
-            3 => self.ty(2),
+            3 => self.of(&STRANGE),
             _ => scalar,
         }
-    }
-
-    /// Types that may have a common one: one layer around several scalars.
-    pub fn like_types(&mut self) -> Vec<Type> {
-        let layer = self.number(4);
-        let types = (0..self.number(5)).map(|_| {
-            let scalar = self.of(&SCALARS[1..]);
-            match layer {
-                0 => scalar,
-                1 => Type::vector(3, scalar),
-                2 => Type::array(Some(2), Type::matrix(2, 3, scalar)),
-                _ => self.value(),
-            }
-        });
-        types.collect()
-    }
-
-    pub fn pair(&mut self) -> (Type, Type) {
-        (self.value(), self.value())
     }
 
     pub fn binary_operator(&mut self) -> BinaryOperator {
@@ -134,19 +56,6 @@ impl Random {
 
     pub fn unary_operator(&mut self) -> UnaryOperator {
         self.of(&UnaryOperator::ALL)
-    }
-
-    /// A name, a template and arguments.
-    pub fn call(&mut self) -> (&'static str, Option<Vec<TpltParam>>, Vec<Type>) {
-        let name = self.of(&CALLED.split(' ').collect::<Vec<_>>());
-        let tplt = (self.number(4) == 0)
-            .then(|| (0..self.number(3)).map(|index| self.parameter(index)).collect());
-        let first = self.value();
-        let args = (0..self.number(5)).map(|_| match self.number(2) {
-            0 => first.clone(),
-            _ => self.value(),
-        });
-        (name, tplt, args.collect())
     }
 
     /// An operand, which is now and then a const-expression or a reference.
@@ -159,85 +68,16 @@ impl Random {
         }
     }
 
-    /// A name, a template and operands, for WGSL's own overloads.
-    pub fn standard_call(&mut self) -> (&'static str, Option<Type>, Vec<Operand>) {
-        let (name, _, arguments) = self.call();
+    /// A name, a template and operands, for WGSL's own overloads. Of two operands one is often as the first.
+    pub fn call(&mut self) -> (&'static str, Option<Type>, Vec<Operand>) {
+        let name = self.of(&CALLED.split(' ').collect::<Vec<_>>());
         let template = (self.number(4) == 0).then(|| self.value());
         let operand = if self.number(2) == 0 { Operand::constant } else { Operand::new };
-        let operands = arguments.into_iter().map(operand).collect();
-        (name, template, operands)
+        let first = self.value();
+        let operands = (0..self.number(5)).map(|_| match self.number(2) {
+            0 => operand(first.clone()),
+            _ => operand(self.value()),
+        });
+        (name, template, operands.collect())
     }
-
-    fn parameter(&mut self, index: usize) -> TpltParam {
-        match self.number(4) {
-            0 => TpltParam::Instance(Instance::Literal(self.literal())),
-            1 => TpltParam::Enumerant(self.enumerant()),
-            _ if index == 1 => TpltParam::Instance(Instance::Literal(self.literal())),
-            _ => TpltParam::Type(self.value()),
-        }
-    }
-
-    fn literal(&mut self) -> LiteralInstance {
-        self.of(&[
-            LiteralInstance::Bool(true),
-            LiteralInstance::AbstractInt(3),
-            LiteralInstance::AbstractInt(i64::MIN),
-            LiteralInstance::I32(-1),
-            LiteralInstance::I32(7),
-            LiteralInstance::U32(u32::MAX),
-            LiteralInstance::I64(-9),
-            LiteralInstance::U64(u64::MAX),
-        ])
-    }
-
-    fn enumerant(&mut self) -> Enumerant {
-        self.of(&[
-            Enumerant::AccessMode(AccessMode::ReadWrite),
-            Enumerant::AddressSpace(AddressSpace::Function),
-            Enumerant::TexelFormat(TexelFormat::R64Uint),
-            Enumerant::AccelerationStructureFlags(AccelerationStructureFlags::VertexReturn),
-        ])
-    }
-}
-
-/// A value, or the word for none.
-fn or<T: ToString>(value: &Option<T>, none: &str) -> String {
-    value.as_ref().map_or(none.to_string(), T::to_string)
-}
-
-/// The words of a request that spell the type.
-pub fn words(ty: &Type) -> String {
-    match ty {
-        Type::Array(ty, n) => format!("array {} {}", or(n, "*"), words(ty)),
-        Type::BindingArray(ty, n) => format!("binding_array {} {}", or(n, "*"), words(ty)),
-        Type::Vec(n, ty) => format!("vec {n} {}", words(ty)),
-        Type::Mat(c, r, ty) => format!("mat {c} {r} {}", words(ty)),
-        Type::Atomic(ty) => format!("atomic {}", words(ty)),
-        Type::Ptr(space, ty, access) => format!("ptr {space} {access} {}", words(ty)),
-        Type::Ref(space, ty, access) => format!("ref {space} {access} {}", words(ty)),
-        Type::Struct(of) => of.members.iter().fold(
-            format!("struct {} {}", of.name, of.members.len()),
-            |text, member| {
-                let (size, align) = (or(&member.size, "-"), or(&member.align, "-"));
-                format!("{text} {} {size} {align} {}", member.name, words(&member.ty))
-            },
-        ),
-        Type::Texture(texture) => texture.to_string().replace(['<', ',', '>'], " "),
-        Type::RayQuery(f) => format!("ray_query {}", or(f, "-")),
-        Type::AccelerationStructure(f) => format!("acceleration_structure {}", or(f, "-")),
-        _ => ty.to_string(),
-    }
-}
-
-/// The words of a request that spell the template.
-pub fn template_words(tplt: Option<&[TpltParam]>) -> String {
-    let Some(tplt) = tplt else {
-        return "-".to_string();
-    };
-    let parameters = tplt.iter().map(|parameter| match parameter {
-        TpltParam::Type(ty) => format!("t {}", words(ty)),
-        TpltParam::Instance(instance) => format!("n {instance}"),
-        TpltParam::Enumerant(enumerant) => format!("e {enumerant}"),
-    });
-    format!("< {} >", parameters.collect::<Vec<_>>().join(" "))
 }

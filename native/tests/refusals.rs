@@ -2,7 +2,7 @@
 
 use crate::asked::{one_type, parameters, types};
 use crate::tables::rows;
-use wgsl_types_proved::builtin::{type_builtin_fn, typecheck_struct_ctor};
+use wgsl_types_proved::builtin::typecheck_struct_ctor;
 use wgsl_types_proved::inst::LiteralInstance as Literal;
 use wgsl_types_proved::syntax::{BinaryOperator::ShortCircuitOr, UnaryOperator::AddressOf};
 use wgsl_types_proved::CallSignature;
@@ -51,16 +51,6 @@ fn refusals_differ_if_they_say_different_things() {
 }
 
 #[test]
-fn a_name_is_found_whole_or_not_at_all() {
-    assert_eq!(type_builtin_fn("abs", None, &[F32]), Ok(Some(F32)));
-    for name in ["", "ab", "absA", "zz"] {
-        let signature = CallSignature { name: name.to_string(), tplt: None, args: vec![F32] };
-        let refused = Err(Signature(signature));
-        assert_eq!(type_builtin_fn(name, None, &[F32]), refused, "{name}");
-    }
-}
-
-#[test]
 fn structs_are_made_of_their_members() {
     let of = one_type("struct S { a: f32, b: i32 }").unwrap_struct();
     for (args, wanted) in [
@@ -69,6 +59,11 @@ fn structs_are_made_of_their_members() {
         ("AbstractFloat", "incorrect number of arguments to `S`, expected `2`, got `1`"),
         ("f32, AbstractFloat", "invalid parameter type, expected `i32`, got `AbstractFloat`"),
         ("bool, bool", "invalid parameter type, expected `f32`, got `bool`"),
+        ("ref<private, f32, read>, i32", "fits"),
+        (
+            "f32, ref<private, i32, write>",
+            "invalid parameter type, expected `i32`, got `ref<private, i32, write>`",
+        ),
     ] {
         let found = match typecheck_struct_ctor(&of, &types(args)) {
             Ok(()) => "fits".to_string(),

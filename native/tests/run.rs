@@ -94,13 +94,6 @@ fn source(text: &str, most: usize, fault: Fault) -> Source<'_> {
     Source { rest: text.as_bytes(), most, fault }
 }
 
-#[test]
-fn run_answers() {
-    let lines = "rank AbstractInt f16\nsize vec 3 f16\ncommon\nfoo\ncall storageBarrier -\n";
-    let output = "7\n6 8\nnone\nbad line 4\nno value\n";
-    expect(source(lines, WHOLE, None), Target::new(WHOLE), Ok(false), output);
-}
-
 /// Each read fails in a run of its own, which writes what was answered before. A run makes no more reads than that.
 fn expect_reads(most_read: usize, most_written: usize, reads: usize) {
     let input = input();
@@ -118,7 +111,7 @@ fn expect_reads(most_read: usize, most_written: usize, reads: usize) {
 
 #[test]
 fn a_run_ends_at_the_read_that_fails() {
-    for most_written in [1, WHOLE] {
+    for most_written in [1, 3, WHOLE] {
         expect_reads(1, most_written, input().len() + 1);
         expect_reads(100, most_written, 4);
         expect_reads(WHOLE, most_written, 2);
@@ -155,24 +148,6 @@ fn a_run_ends_at_the_write_that_fails() {
     expect_writes(WHOLE, 1, bytes);
     expect_writes(1, WHOLE, 12);
     expect_writes(WHOLE, WHOLE, 1);
-}
-
-#[test]
-fn short_reads_and_writes_change_nothing() {
-    let lines = "binary + i32 i32\n\nno\nbinary + bool i32\nbinary + f32 f32";
-    let refused = "cannot use binary operator `+` with operands `bool` and `i32`";
-    let output = &format!("i32\nbad line 3\n{refused}\nf32\n");
-    for (most_read, most_written) in [(WHOLE, WHOLE), (1, WHOLE), (WHOLE, 1), (1, 1), (7, 3)] {
-        expect(source(lines, most_read, None), Target::new(most_written), Ok(false), output);
-    }
-}
-
-#[test]
-fn nothing_is_written_after_a_failed_write() {
-    let lines = "binary + i32 i32\nbinary + u32 u32\n";
-    let mut target = Target { fault: Some((1, Other)), ..Target::new(WHOLE) };
-    let outcome = run(&mut source(lines, 17, None), &mut target);
-    assert_eq!((outcome, target.taken), (Err(RunError::Write), b"i32\n".to_vec()));
 }
 
 #[test]

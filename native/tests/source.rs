@@ -1,20 +1,22 @@
 //! Types from their spellings, and the layouts of a file.
 
-use crate::{random::Random, tables::rows};
+use crate::{asked::one_type, tables::rows};
 use wgsl_types_proved::source::{code, layouts, types, Language, Message};
+use wgsl_types_proved::syntax::{AccessMode, AddressSpace};
 use wgsl_types_proved::Type;
-
-const ROUNDS: usize = 20_000;
 
 #[test]
 fn what_displays_is_read() {
-    let mut random = Random::new(8);
-    for _ in 0..ROUNDS {
-        let ty = random.ty(4);
-        let text = ty.to_string();
-        match text.parse::<Type>() {
-            Ok(read) => assert_eq!(read, ty),
-            Err(error) => assert!(!is_spelled(&ty), "{text}: {error}"),
+    for [text] in rows("tables/strange.tsv") {
+        let ty = one_type(&text);
+        let (inner, other) = (Box::new(ty.clone()), Type::array(Some(4), ty.clone()));
+        let pointer = Type::Ptr(AddressSpace::Storage, inner, AccessMode::ReadWrite);
+        for ty in [ty, other, pointer] {
+            let text = ty.to_string();
+            match text.parse::<Type>() {
+                Ok(read) => assert_eq!(read, ty),
+                Err(error) => assert!(!is_spelled(&ty), "{text}: {error}"),
+            }
         }
     }
 }
@@ -75,14 +77,6 @@ fn address_spaces_hold_what_browsers_let_them_hold() {
         assert_eq!(told.is_empty(), verdict == "taken", "{text}: {told:?}");
         assert!(told.len() < 2, "{text}: {told:?}");
     }
-}
-
-#[test]
-fn large_modules_need_more_room_than_text() {
-    let structs: String = (0..2000).map(|at| format!("struct S{at}{{a:f32,b:u32}}")).collect();
-    let module = layouts(structs);
-    assert_eq!(module.structs.len(), 2000);
-    assert!(module.structs.iter().all(|of| of.size == 8));
 }
 
 #[test]

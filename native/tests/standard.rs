@@ -168,7 +168,7 @@ fn operators() {
 fn constructors_and_calls() {
     let mut random = Random::new(7);
     let [asked, shown] = counts((0..ROUNDS).map(|_| {
-        let (name, template, operands) = random.standard_call();
+        let (name, template, operands) = random.call();
         let template = template.as_ref();
         let list = template.map_or(String::new(), |ty| format!("<{ty}>"));
         let arguments: Vec<String> = operands.iter().map(spelled).collect();

@@ -1,11 +1,11 @@
-//! A program as users write it: operators, a constructor, a call, conversions, a layout.
+//! A program as users write it: operators, a constructor, a call, conversions.
 
 use wgsl_types_proved::builtin::{type_binary_op, type_builtin_fn, type_ctor};
 use wgsl_types_proved::conv::{convert, convert_all, convert_all_inner_to, convert_all_to};
-use wgsl_types_proved::conv::{convert_all_ty, convert_inner, Convert};
+use wgsl_types_proved::conv::{convert_inner, Convert};
 use wgsl_types_proved::syntax::BinaryOperator::{Addition, Multiplication};
 use wgsl_types_proved::tplt::TpltParam;
-use wgsl_types_proved::ty::{StructType, Ty};
+use wgsl_types_proved::ty::Ty;
 use wgsl_types_proved::{Error, Type};
 use Type::{AbstractFloat, AbstractInt, Bool, F16, F32, I32, U32};
 
@@ -27,14 +27,6 @@ fn expressions_have_types() {
 #[test]
 fn a_refusal_names_operator_and_operands() {
     assert_eq!(moved(&F32, &Bool, &I32), Err(Error::Binary(Multiplication, Bool, I32)));
-}
-
-#[test]
-fn values_convert_together() {
-    assert_eq!(convert_all(&[AbstractInt, F32, AbstractFloat]), Some(vec![F32, F32, F32]));
-    assert_eq!(convert_all_ty(&[I32, AbstractInt]), Some(&I32));
-    assert_eq!(convert(&I32, &U32), None);
-    assert_eq!(AbstractInt.convert_to(&U32), Some(U32));
 }
 
 /// A type with the number of its input line. It converts as the type does, and stays on its line.
@@ -69,10 +61,4 @@ fn values_of_a_program_convert_by_its_own_rule() {
     let other = Type::vector(2, U32);
     assert_eq!(convert_inner(&whole, &other), Some((Typed(U32, 1), other)));
     assert_eq!(convert_all_inner_to(&[whole], &U32), Some(vec![Typed(U32, 1)]));
-}
-
-#[test]
-fn a_struct_has_offsets() {
-    let light = StructType::new("Light", [("position", Type::vector(3, F32)), ("intensity", F32)]);
-    assert_eq!((light.size_of(), light.offsets()), (Some(16), Some(vec![0, 12])));
 }

@@ -1,7 +1,7 @@
 //! Worked examples: the requests of `tests/lines`, and what no request asks.
 
 use std::{fs, thread};
-use wgsl_types_proved::builtin::{type_builtin_fn, type_ctor};
+use wgsl_types_proved::builtin::type_builtin_fn;
 use wgsl_types_proved::conv::{convert_all, convert_all_ty, convert_ty};
 use wgsl_types_proved::mem::{PlacedMember, StructLayout};
 use wgsl_types_proved::requests::{answer, standard_answer, Error as NoAnswer};
@@ -9,7 +9,7 @@ use wgsl_types_proved::syntax::{
     AccessMode, AddressSpace, BinaryOperator, Enumerant, TexelFormat, UnaryOperator,
 };
 use wgsl_types_proved::ty::{SamplerType, StructType, MAX_DEPTH};
-use wgsl_types_proved::{CallSignature, Error, Type};
+use wgsl_types_proved::{Error, Type};
 use Type::{Bool, F32, I32};
 
 /// Each request has the answer behind its last ` => `, where `\n` parts two lines; one with `bad line` can't be read.
@@ -67,12 +67,6 @@ fn result_structs() {
 }
 
 #[test]
-fn constructors_that_nothing_is() {
-    let signature = CallSignature { name: "vec5".to_string(), tplt: None, args: vec![] };
-    assert_eq!(type_ctor("vec5", None, &[]), Err(Error::Signature(signature)));
-}
-
-#[test]
 fn layouts() {
     let of = StructType::new("S", [("a", F32), ("b", Type::vector(3, F32)), ("c", F32)]);
     let placed = |offset, size, align| PlacedMember { offset, size, align };
@@ -80,6 +74,8 @@ fn layouts() {
     assert_eq!(of.layout(), Some(StructLayout { members, size: 32, align: 16 }));
     assert_eq!((of.size_of(), of.align_of()), (Some(32), Some(16)));
     assert_eq!(of.offsets(), Some(vec![0, 16, 28]));
+    let flags = StructType::new("F", [("a", Type::vector(3, Bool))]);
+    assert_eq!((flags.layout(), flags.offsets()), (None, None));
     let empty = StructType { name: "E".to_string(), members: vec![] };
     assert_eq!((empty.size_of(), empty.align_of(), empty.layout()), (None, Some(0), None));
 }

@@ -5,8 +5,21 @@ that a rule speaks of are those in the first cell, unless it gives them itself; 
 it covers."""
 import re
 
+from forms.kinds import element_of, is_vector
+from spelling import is_abstract
 from table import texts
-from types_in_words import ABSTRACT_INT, BOOL, FLOATS, INTEGERS, count_of, is_abstract, is_vector, of
+
+BOOL, ABSTRACT_INT, FLOATS = {"bool"}, {"AbstractInt"}, {"AbstractFloat", "f32", "f16", "f64"}
+INTEGERS = {"AbstractInt", "i32", "u32", "i64", "u64"}
+
+
+def of(scalars, t):
+    """Whether a type is one of the scalars, or a vector of one."""
+    return (element_of(t) if is_vector(t) else t) in scalars
+
+
+def count_of(vector):
+    return int(vector[3])
 
 
 class Rule:
@@ -73,7 +86,7 @@ def miscounts_column(d):
 
 
 def makes_f32(d):
-    made = is_matrix(d) and d.template == "-" and all(of(ABSTRACT_INT, t) for t in d.types)
+    made = is_matrix(d) and d.template is None and all(of(ABSTRACT_INT, t) for t in d.types)
     return made and d.theirs == (d.ours or "").replace("f32", "AbstractFloat")
 
 
@@ -141,7 +154,7 @@ RULES = [
     Rule("`subgroupBallot`", lambda d: d.is_wider and not d.types),
     Rule("texture functions", lambda d: d.is_wider and d.name.startswith("texture")),
     Rule("atomic functions", lambda d: d.is_wider and d.name.startswith("atomic")),
-    Rule("`workgroupUniformLoad`", lambda d: d.is_wider and d.types[0].startswith("ptr workgroup ")),
+    Rule("`workgroupUniformLoad`", lambda d: d.is_wider and d.types[0].startswith("ptr<workgroup, ")),
     Rule("`workgroupUniformLoad` of an atomic", lambda d: d.ours == f"atomic<{d.theirs}>"),
     Rule("constructors of matrices", miscounts_column),
     Rule("constructors of matrices without a template, of AbstractInt", makes_f32),

@@ -1,7 +1,6 @@
 """The native programs beside the proved ones."""
 import glob
 import os
-import re
 
 from erased.random_lines import broken_requests, random_lines
 from erased.tools import answers_of, cargo
@@ -46,12 +45,11 @@ def compare_arguments(native):
 
 
 def questions():
-    asked = [request for folder in ([], ["standard"]) for request, *_ in requests(*folder)]
-    names = sorted({row.split()[1] for row in asked if re.match(r"(call|ctor) \S", row)})
+    asked, standard = ([request for request, *_ in requests(*folder)] for folder in ([], ["standard"]))
     forms = random_requests(FORMS)
     in_wgsl = [request for request, _ in form_questions()] + forms + broken_requests(forms)
-    lines = [row.encode() for row in asked + in_wgsl]
-    return b"\n".join(lines + random_lines(names, LINES)) + b"\n"
+    lines = [row.encode() for row in asked + standard + in_wgsl]
+    return b"\n".join(lines + random_lines(asked, LINES)) + b"\n"
 
 
 def compare_lines(native):

@@ -13,7 +13,7 @@ from forms.random_requests import random_requests  # noqa: E402
 from programs import expect, tell, write  # noqa: E402
 from table import texts  # noqa: E402
 
-COUNT = 100_000
+COUNT = 40_000
 
 
 def questions():

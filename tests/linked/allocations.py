@@ -7,11 +7,10 @@ has three lists, the types, the types on their lines and copies of them, and if 
 By WGSL's own rules a request takes as many as one of the same form with `f32` for each scalar and `vec2f` for each vector."""
 import random
 
-from erased.random_lines import BINARY, UNARY
 from spelling import SCALARS
 from table import listed
 
-NAMES = {"unary": UNARY, "binary": BINARY} | {kind: listed("tables/random.tsv", "short", kind) for kind in ("call", "ctor")}
+NAMES = {kind: listed("tables/random.tsv", of, kind) for of, kind in (("words", "unary"), ("words", "binary"), ("short", "call"), ("short", "ctor"))}
 COUNTS = {"rank": 2, "unary": 1, "binary": 2, "size": 1}
 
 

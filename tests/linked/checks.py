@@ -1,14 +1,17 @@
 """The checks of the linked library, which tests/link has built."""
 import glob
 import os
+import random
 import re
 
-from linked import allocations, source_calls, standard_calls, sweeps
+from linked import allocations, source_calls, sweeps
 from linked.deepest import check_stack
 from linked.library import RULED_OUT, Library
 from linked.python_module import check_python, check_python_folders
 from linked.statuses import check_statuses
 from linked.tools import LINKED, WARNINGS, answers_and_notes, compare_both, compile_c, compile_cpp, expect_shown, write_shown
+from overloads.calls import Calls, request
+from overloads.facts import read_facts
 from programs import ASK, BINDINGS, CHECK, TOP, are_there, expect, fail, read, run
 from table import requests as listed
 
@@ -31,8 +34,13 @@ def requests():
 
 
 def standard_requests():
-    """The same by WGSL's own rules, with some calls of tests/standard, and all lists of overloads."""
-    lines = [request for request, *_ in listed("standard")] + standard_calls.requests(CALLED)
+    """The same by WGSL's own rules, with the types, resolutions and explanations of some calls of tests/standard, and all lists of
+    overloads."""
+    formats, table = read_facts()
+    called = random.Random(15).sample(Calls(table, formats).all(), CALLED)
+    lines = [asked for asked, *_ in listed("standard")]
+    lines += [request(command, call)[0] for call in called for command in ("type", "resolve", "why")]
+    lines += [f"overloads {name}" for name in table]
     lines += ["", " \t\r", "\v", "size\rf32", "\0", "foo", "why", "type -" + "array<" * 250 + "f32" + ">" * 250, " " * 4096, " " * 4097]
     return [line.encode() for line in lines] + [b"overloads \xff", b"type -f32\r"]
 

@@ -3,7 +3,6 @@ import random
 import re
 
 import wgsl
-from linked.python_raised import raised
 from overloads.calls import UNIVERSE, Calls, request
 from overloads.facts import read_facts
 from programs import expect
@@ -107,15 +106,6 @@ def compare_check():
         expect(found == {wanted}, f"the check of {given!r} is {found}")
 
 
-def compare_notes():
-    """A refusal and what can't be read have their request, and a refusal its notes."""
-    for kind, asked in ((wgsl.Refused, "type cross(f32, vec3f)"), (wgsl.Unreadable, "type cross(f32, f33)")):
-        error = raised(kind, wgsl.answer, (asked,))
-        expect(error.request == asked != str(error), f"{asked} raises {error!r} of {error.request!r}")
-        is_noted = kind is not wgsl.Refused or "\n".join(error.notes) == wgsl.answer(f"why {asked[5:]}")
-        expect(is_noted, f"{asked} raises {error!r} with other notes")
-
-
 def compare_rare():
     """A call with lists in its parameters, one without operands and without a value, and a name without overloads."""
     atomic = "ptr<storage, atomic<u32>, read_write>"
@@ -129,6 +119,5 @@ compare_calls()
 compare_types()
 compare_source()
 compare_check()
-compare_notes()
 compare_rare()
 print(f"{CALLED} calls, {PAIRS} ranks, {LISTS} common types, as requests answer")

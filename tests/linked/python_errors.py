@@ -12,6 +12,8 @@ from table import listed, texts
 
 # Half of a surrogate pair, which no table can have.
 HALF = (wgsl.binary, ("+", "f32", "\ud800"), "right", "type \ud800")
+# No text, though the third is a letter, if its halves are taken for bytes, and the fourth one of UTF-16.
+SURROGATES = ["\ud800", "\udcff", "\udcc3\udc9f", "\ud83d\ude00"]
 
 
 def rows(kind):
@@ -33,6 +35,8 @@ def check_arguments():
         expect("column" not in "".join(traceback.format_exception(type(error), error, None)), f"{error!r} is printed with a column")
     error = raised(ValueError, wgsl.source_code, ("", "C"))
     expect(str(error) == "there is no language 'C': it is c, rust, numpy, typescript", f"a language that isn't there raises {error!r}")
+    for name in SURROGATES:
+        raised(wgsl.Unreadable, wgsl.answer, (f"size struct {name} {{ a: f32 }}",))
     long = raised(wgsl.Unreadable, wgsl.common, (["f32"] * 1100,))
     expect(str(long) == str(raised(wgsl.Unreadable, wgsl.answer, ("size" * 1025,))), f"a long request raises {long!r}")
     return len(wrong_types) + len(misread)

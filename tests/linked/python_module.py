@@ -15,7 +15,7 @@ FOUND = {"PYTHONPATH": f"{FOLDER}{os.pathsep}{TESTS}", "PYTHONDONTWRITEBYTECODE"
 
 
 def check_python(top, folder, asked, wanted, standard_asked, standard_wanted):
-    """The package as a program, the program of docs/USING.md, threads, and calls. A relative folder is found from below."""
+    """The package as a program, the program of docs/USING.md, and calls. A relative folder is found from below."""
     where, name = {"WGSL_LIB": folder, **FOUND}, os.path.basename(folder)
     compare_both("Python", wanted, answers_and_notes(*PROGRAM, "--rules", "wgsl-types", asked=asked, **where))
     given = answers_and_notes(*PROGRAM, asked=standard_asked, **where)
@@ -24,9 +24,6 @@ def check_python(top, folder, asked, wanted, standard_asked, standard_wanted):
     os.makedirs(below, exist_ok=True)
     shown = write_shown("python", os.path.join(below, "shown.py"))
     expect_shown("Python", run(sys.executable, shown, where=below, WGSL_LIB=name, **FOUND), "vec3<f32>\n[0, 16, 28]\n")
-    program = os.path.join(LINKED, "python_threads.py")
-    threads = run(sys.executable, program, asked=standard_asked, where=top, WGSL_LIB=name, **FOUND)
-    print(f"link: Python: {threads.decode().strip()}")
     for program in ("python_calls.py", "python_errors.py"):
         print("link: Python:", run(sys.executable, os.path.join(LINKED, program), where=top, WGSL_LIB=name, **FOUND).strip())
     check_json(where)

@@ -3,6 +3,7 @@ import glob
 import json
 import os
 import random
+import re
 
 from linked.library import UNREADABLE
 from programs import TESTS, TOP, expect, fail, run
@@ -10,7 +11,7 @@ from programs import TESTS, TOP, expect, fail, run
 SOURCED = os.path.join(TESTS, "sourced")
 MODULES = sorted(glob.glob(os.path.join(SOURCED, "*.wgsl")))
 # One in how many changed modules the program is asked about too.
-COMPARED = 40
+COMPARED = 100
 # The calls that write JSON, with the words by which the program prints the same.
 JSON = {"source_layout": ["layout", "--json"], "module_check": ["check", "--json", "--types"]}
 
@@ -82,17 +83,25 @@ def compare_code(library):
         expect(library.ask("source_code", bytes_of(path), 4) == (UNREADABLE, b""), "there is a fifth language")
 
 
+def is_in(text, told):
+    """Whether a place is in the text."""
+    lines = re.split(b"\r\n|[\n\v\f\r]|\xc2\x85|\xe2\x80[\xa8\xa9]", text)
+    return 1 <= told["line"] <= len(lines) and 1 <= told["column"] <= len(lines[told["line"] - 1]) + 1
+
+
 def compare_changed(library):
-    """A module cut after each byte, and with each byte changed."""
+    """A module cut after each byte, and with each byte changed: what is told has places in the text."""
     module, rng = bytes_of(os.path.join(SOURCED, "every_form.wgsl")), random.Random(38)
     changed = [module[:n] for n in range(len(module) + 1)]
     for at in range(len(module)):
-        for byte in (rng.choice(b"<>(){}@;:,*/"), rng.randrange(256)):
+        for byte in {0, 255, *rng.choices(b"<>(){}@;:,*/", k=4), rng.randrange(256)}:
             changed.append(module[:at] + bytes([byte]) + module[at + 1 :])
     for index, text in enumerate(changed):
         for call in JSON:
             told = json_of(library, text, call)
-            json.loads(told)
+            found = json.loads(told)
+            faults = [*found.get("errors", ()), *found.get("findings", ()), *found.get("faults", ())]
+            expect(all(is_in(text, fault) for fault in faults), f"{call} of {text} tells of a place that isn't there: {faults}")
             expect(index % COMPARED != 0 or told == program_json(text, call), f"{call} of {text} in C writes something else than the program")
     return len(changed)
 

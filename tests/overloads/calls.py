@@ -68,9 +68,12 @@ def with_constants(rng, operands):
 
 
 class Calls:
-    def __init__(self, table, formats):
+    """The calls of names with their candidates; `own` are types of operands beside those of WGSL."""
+
+    def __init__(self, table, formats, own=()):
         self.rng = random.Random(2026)
         self.table = table
+        self.universe = [*UNIVERSE, *own]
         self.textures = TEXTURES + storage_textures(FEW_FORMATS)
         self.storage = storage_textures(formats)
 
@@ -94,23 +97,23 @@ class Calls:
         return {len(parameters) for _, parameters, _ in self.table[name]}
 
     def operators(self):
-        for name, t in itertools.product(UNARY, UNIVERSE + POINTERS + self.textures):
+        for name, t in itertools.product(UNARY, self.universe + POINTERS + self.textures):
             yield from self.asked(name, None, [t])
         for name in self.names(of_operators=True):
             if 2 in self.counts(name):
-                for pair in itertools.product(UNIVERSE, repeat=2):
+                for pair in itertools.product(self.universe, repeat=2):
                     yield from self.asked(name, None, pair)
 
     def of_one(self):
         for name in self.names():
             yield from self.asked(name, None, [])
-            for t in UNIVERSE + self.textures:
+            for t in self.universe + self.textures:
                 yield from self.asked(name, None, [t])
 
     def of_two(self):
         for name in self.names():
             if 2 in self.counts(name) and not name.startswith(("texture", "atomic")):
-                for pair in itertools.product(UNIVERSE, repeat=2):
+                for pair in itertools.product(self.universe, repeat=2):
                     yield from self.asked(name, None, pair)
 
     def of_more(self):
@@ -151,12 +154,12 @@ class Calls:
     def with_templates(self):
         for name in self.names():
             if name == "bitcast":
-                for template, t in itertools.product(TEMPLATES, UNIVERSE):
+                for template, t in itertools.product(TEMPLATES, self.universe):
                     yield from self.asked(name, template, [t])
             elif self.has_template(name):
                 for template in CONCRETE + ["vec2<f32>"]:
                     yield from self.asked(name, template, [])
-                    for t in UNIVERSE:
+                    for t in self.universe:
                         yield from self.asked(name, template, [t])
                 if 2 in self.counts(name):
                     for template, pair in itertools.product(["f32", "u32", "bool"], itertools.product(FEWER, repeat=2)):
@@ -203,7 +206,7 @@ class Calls:
         operands = list(operands)
         kind = self.rng.random()
         if not operands or kind < 0.1:
-            operands.insert(self.rng.randrange(len(operands) + 1), self.rng.choice(UNIVERSE))
+            operands.insert(self.rng.randrange(len(operands) + 1), self.rng.choice(self.universe))
         elif kind < 0.2:
             operands.pop(self.rng.randrange(len(operands)))
         else:
@@ -217,7 +220,7 @@ class Calls:
             return TEXTURES + self.storage
         if t.startswith("ptr"):
             return POINTERS
-        return FEWER if is_value(t) and self.rng.random() < 0.5 else UNIVERSE
+        return FEWER if is_value(t) and self.rng.random() < 0.5 else self.universe
 
     def near_names(self):
         """Names that are none: each without its last letter, and with one more. Some of these are reserved."""

@@ -2,7 +2,8 @@
 import itertools
 import re
 
-from spelling import is_constructible, split_list
+from forms.kinds import is_abstract, is_constructible
+from spelling import split_list
 from table import listed, texts
 
 NAME = re.compile(r"\w+|[^\w(]+")
@@ -38,7 +39,7 @@ def options(words, formats):
     if words == "type":
         return SAMPLES
     if words == "concrete constructible type":
-        return [t for t in SAMPLES if is_constructible(t)]
+        return [t for t in SAMPLES if is_constructible(t) and not is_abstract(t)]
     if words == "texel format":
         return list(formats)
     if words.startswith("format of "):
