@@ -1,5 +1,5 @@
 """Random requests: the questions of questions.txt with other types, components, operators and constants in place of theirs. A
-quarter of them has a type."""
+fifth of them has a type."""
 import random
 import re
 
