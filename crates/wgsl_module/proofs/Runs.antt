@@ -1,8 +1,9 @@
--- Events and bodies one behind the other.
-use Rattle.std.proofs.Common.{◌≡◌, ◌∙◌, ◌+◌, ℕ, zero, suc, List, [], ◌∷◌, ◌++◌, ◌<◌, arith, drop, get_or, length, map, slice_get, subst}
+-- Events, declarations and bodies one behind the other.
+use Rattle.std.proofs.Common.{◌≡◌, ◌∙◌, ◌+◌, ℕ, zero, suc, List, [], ◌∷◌, ◌++◌, ◌<◌, ap, arith, drop, get_or, length, map, option_map, slice_get, subst, sym}
+use Rattle.std.proofs.lemmas.Option.{slice_get-map}
 use Rattle.wgsl_module.specs.Noted.{Comes, Does, Reading, State}
-use Rattle.wgsl_module.specs.Declarations.{bodies_of, body_by, written}
-use Rattle.wgsl_module.specs.Runs.{AreBodies, AreRuns, IsBody, IsBodyOf}
+use Rattle.wgsl_module.specs.Declarations.{Written, bodies_of, body_by, written}
+use Rattle.wgsl_module.specs.Runs.{AreBodies, AreDeclarations, AreRuns, IsBody, IsBodyOf, IsDeclaration}
 use Rattle.wgsl_module.specs.declared.declaration.Declaration.{Declaration}
 use Rattle.wgsl_module.specs.declared.declaration.DeclarationKind.{DeclarationKind}
 use Rattle.wgsl_module.specs.declared.declaration.DeclarationKind.TheVariants as kinds
@@ -42,3 +43,26 @@ pub next_event : (tokens : List Token) (events : List Event) (index : ℕ) (d : 
 next_event tokens events index d word s m r inside kind does rest =
     let next : index + 1 ≡ suc index = omega arith in
     event_and_rest tokens events index d s m r inside (rw (← kind) does) (subst (λ k. Comes tokens (drop k events) m r) next rest)
+
+pub one_behind_other : (tokens : List Token) (front rest : List Event) (s m r : State) → Comes tokens front s m → Comes tokens rest m r
+    → Comes tokens (front ++ rest) s r
+one_behind_other tokens [] rest s m r same come = subst (λ k. Comes tokens rest k r) same come
+one_behind_other tokens (e ∷ front) rest s m r came come = (came.0, came.1, one_behind_other tokens front rest came.0 m r came.2 come)
+
+-- Declarations
+
+index_and_rest : (tokens : List Token) (ws : List Written) (order : List ℕ) (k d : ℕ) (s m r : Reading) → k < length order
+    → IsDeclaration tokens (slice_get ws (get_or order k d)) s m → AreDeclarations tokens ws (drop (suc k) order) m r → AreDeclarations tokens ws (drop k order) s r
+index_and_rest tokens ws [] k d s m r inside is rest = absurd (omega (arith, inside))
+index_and_rest tokens ws (i ∷ order) zero d s m r inside is rest = (m, is, rest)
+index_and_rest tokens ws (i ∷ order) (suc k) d s m r inside is rest = index_and_rest tokens ws order k d s m r (omega (arith, inside)) is rest
+
+pub next_declaration : (tokens : List Token) (ds now : List Declaration) (order : List ℕ) (k d : ℕ) (s m r : Reading) → now ≡ ds → k < length order
+    → IsDeclaration tokens (option_map written (slice_get now (get_or order k d))) s m
+    → AreDeclarations tokens (map written ds) (drop (k + 1) order) m r → AreDeclarations tokens (map written ds) (drop k order) s r
+next_declaration tokens ds now order k d s m r same inside is rest =
+    let next : k + 1 ≡ suc k = omega arith in
+    let one : option_map written (slice_get now (get_or order k d)) ≡ slice_get (map written ds) (get_or order k d) =
+    ap (λ xs. option_map written (slice_get xs (get_or order k d))) same ∙ sym (slice_get-map written ds (get_or order k d)) in
+    index_and_rest tokens (map written ds) order k d s m r inside (subst (λ o. IsDeclaration tokens o s m) one is)
+    (subst (λ j. AreDeclarations tokens (map written ds) (drop j order) m r) next rest)

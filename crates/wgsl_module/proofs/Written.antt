@@ -2,10 +2,9 @@
 use Rattle.std.proofs.Common.{◌≡◌, ◌∙◌, ◌+◌, ◌<◌, ◌≤◌, ℕ, List, [], ◌∷◌, ◌++◌, Bool, true, false, ◌||◌, Option, Some, None, ap, append_assoc, arith, cond, drop, drop-cons, get_or, is_some, length, map, refl, slice_range, subst, suc, sym, unwrap_or}
 use Rattle.std.proofs.lemmas.List.{append-nil, drop_all, map_push}
 use Rattle.std.proofs.lemmas.List.Edits.{between_more, between_none}
-use Rattle.wgsl_module.specs.Declarations.{Written, begins, begun, bodies_of, body_by, body_up_to, ended, unless_ended, with_end, with_event, written, written_in}
+use Rattle.wgsl_module.specs.Declarations.{Written, begins, begun, body_up_to, ended, unless_ended, with_end, with_event, written, written_in}
 use Rattle.wgsl_module.specs.declared.declaration.Declaration.{Declaration}
 use Rattle.wgsl_module.specs.declared.declaration.DeclarationKind.{DeclarationKind}
-use Rattle.wgsl_module.specs.declared.declaration.DeclarationKind.TheVariants as kinds
 use Rattle.wgsl_reader.specs.declared.read.Event.{Event}
 
 -- What is left
@@ -110,13 +109,3 @@ read_one events ds from (Some begin) i d inside is found =
     let on = goes_on own (slice_range events begin i) e true rest is ∙ (in_its_body own (slice_range events begin i) e (written_in true rest)
     ∙ ap (λ es. with_front own es (written_in true rest)) (sym (between_more events begin i d found.below inside))) in
     record { all = ap (λ ws. map written ds ++ ws) (sym on) ∙ all; above = found.above; below = omega (arith, found.below) }
-
--- Bodies
-
-without_body : (ds : List Declaration) (x : Declaration) → x.kind ≡ kinds.Misread → bodies_of (map written (ds ++ x ∷ [])) ≡ bodies_of (map written ds)
-without_body [] x is = ap (λ k. body_by k x.body.now ++ []) is
-without_body (d ∷ ds) x is = ap (λ bs. body_by d.kind d.body.now ++ bs) (without_body ds x is)
-
--- what isn't read has no body
-pub misread_pushed : (all ds : List Declaration) (x : Declaration) → all ≡ ds ++ x ∷ [] → x.kind ≡ kinds.Misread → bodies_of (map written all) ≡ bodies_of (map written ds)
-misread_pushed all ds x pushed is = ap (λ ds. bodies_of (map written ds)) pushed ∙ without_body ds x is

@@ -1,5 +1,7 @@
 -- What stands in the brackets of an attribute (WGSL, "Attributes").
-use Rattle.std.specs.Prelude.{◌≡◌, ℕ, List, [], ◌∷◌, ◌++◌, Bool, true, false, Option, Some, None}
+use Rattle.std.specs.Prelude.{◌≡◌, ℕ, List, [], ◌∷◌, ◌++◌, Bool, true, false, Option, Some, None, codes}
+use Rattle.wgsl_module.specs.declared.attribute.Name.{Name}
+use Rattle.wgsl_module.specs.declared.attribute.Name.TheVariants as name
 use Rattle.wgsl_typing.specs.declared.known.Part.{Part}
 use Rattle.wgsl_reader.specs.declared.kind.Kind.{Kind}
 use Rattle.wgsl_reader.specs.declared.kind.Kind.TheVariants.{Const}
@@ -8,7 +10,22 @@ use Rattle.wgsl_typing.specs.Stacks.{IsOperand}
 use Rattle.wgsl_typing.specs.declared.item.Item.{Item}
 use Rattle.wgsl_typing.specs.declared.item.Item.TheVariants as items
 
--- the names in the brackets of some attributes are no expressions: `@builtin(position)`
+-- the attributes by their names
+abbrev pub attribute_names : List (Name × List ℕ)
+attribute_names =
+    (name.Align, codes "align") ∷ (name.Binding, codes "binding") ∷ (name.BlendSrc, codes "blend_src") ∷ (name.Builtin, codes "builtin") ∷
+    (name.Compute, codes "compute") ∷ (name.Fragment, codes "fragment") ∷ (name.Group, codes "group") ∷ (name.Id, codes "id") ∷
+    (name.Interpolate, codes "interpolate") ∷ (name.Invariant, codes "invariant") ∷ (name.Location, codes "location") ∷
+    (name.MustUse, codes "must_use") ∷ (name.Size, codes "size") ∷ (name.Vertex, codes "vertex") ∷ (name.WorkgroupSize, codes "workgroup_size") ∷ []
+
+-- Names in the brackets of these, and of what is no attribute, are no expressions: `@builtin(position)`, `@stage(vertex)`
+abbrev pub takes_names : Option Name → Bool
+takes_names None = true
+takes_names (Some name.Builtin) = true
+takes_names (Some name.Interpolate) = true
+takes_names other = false
+
+-- one of these names
 abbrev pub word_of : Bool → Item → Option ℕ
 word_of true (items.Name count) = Some count
 word_of takes_names other = None

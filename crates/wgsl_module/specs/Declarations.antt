@@ -61,7 +61,7 @@ written_in in_body [] = []
 written_in in_body (e ∷ events) = with_end (ended e.mark in_body) (in_body || begins e.mark) e
     (written_in (unless_ended (ended e.mark in_body) (in_body || begins e.mark)) events)
 
--- the bodies of the functions among declarations
+-- the bodies of the functions among declarations, in their order
 abbrev pub body_by : DeclarationKind → List Event → List (List Event)
 body_by kinds.Function body = body ∷ []
 body_by other body = []
@@ -69,10 +69,6 @@ body_by other body = []
 abbrev pub bodies_of : List Written → List (List Event)
 bodies_of [] = []
 bodies_of (d ∷ ds) = body_by d.kind d.body ++ bodies_of ds
-
--- those of a module, in the order of the text
-abbrev pub bodies : List Event → List (List Event)
-bodies events = bodies_of (written_in false events)
 
 -- where the body begins that is read behind an event
 abbrev pub begun : Mark → ℕ → Option ℕ → Option ℕ

@@ -5,6 +5,7 @@ pub mod Control
 pub mod Declarations
 pub mod Flow
 pub mod Noted
+pub mod Order
 pub mod Runs
 pub mod Statements
 pub mod Told

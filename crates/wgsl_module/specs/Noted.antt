@@ -1,7 +1,8 @@
 -- What the events of statements and declarations take of the expressions in front of them, and which of these are noted
 -- (WGSL, "Statements", "Variable and Value Declarations", "Attributes").
 use Rattle.std.specs.Prelude.{◌≡◌, ℕ, List, [], ◌∷◌, ◌++◌, Bool, true, false, Option, Some, None, map, reverse}
-use Rattle.wgsl_module.specs.Arguments.{AreArguments, is_const}
+use Rattle.wgsl_module.specs.Arguments.{AreArguments, attribute_names, is_const, takes_names}
+use Rattle.wgsl_module.specs.declared.attribute.Name.{Name}
 use Rattle.wgsl_module.specs.declared.checker.Checker.{Checker}
 use Rattle.wgsl_module.specs.declared.declaration.Declaration.{Declaration}
 use Rattle.wgsl_module.specs.declared.switch.Switch.{Switch}
@@ -11,7 +12,9 @@ use Rattle.wgsl_reader.specs.declared.mark.Mark.{Mark}
 use Rattle.wgsl_reader.specs.declared.mark.Mark.TheVariants as m
 use Rattle.wgsl_reader.specs.declared.read.Event.{Event}
 use Rattle.wgsl_reader.specs.declared.token.Token.{Token}
-use Rattle.wgsl_typing.specs.Stacks.{IsOnTop, IsOperand, Stack, below, below_declared, below_initializer, below_operand, below_space, initializer_on, stack, with_parts}
+use Rattle.wgsl_syntax.specs.Names.{named}
+use Rattle.wgsl_typing.specs.Names.{word_in}
+use Rattle.wgsl_typing.specs.Stacks.{IsOnTop, IsOperand, Stack, below, below_declared, below_initializer, below_operand, below_space, initializer_on, name_on, stack, with_parts}
 use Rattle.wgsl_typing.specs.Steps.{StepIf, is_of_expressions}
 use Rattle.wgsl_typing.specs.Taken.{below_list, in_list}
 use Rattle.wgsl_typing.specs.Types.{no_type_on}
@@ -120,6 +123,10 @@ DeclaresValue s r = (x : Part) × IsOnTop s.stack x × (reading r ≡ leaving (b
 abbrev pub below_variable : List Item → List Item
 below_variable is = below (below_declared (below_initializer is))
 
+-- `override x: T = y`
+abbrev pub DeclaresOverride : State → State → Type 0
+DeclaresOverride s r = reading r ≡ leaving (below_variable s.stack.items) (those (initializer_on s.stack.items)) s
+
 -- `var<private> x: T = y`
 abbrev pub DeclaresVariable : State → State → Type 0
 DeclaresVariable s r = reading r ≡ leaving (below_space (below_variable s.stack.items)) (those (initializer_on s.stack.items)) s
@@ -136,9 +143,13 @@ DeclaresResult s r = reading r ≡ leaving (below_operand s.stack.items) (no_typ
 abbrev pub OpensAttribute : ℕ → State → State → Type 0
 OpensAttribute at s r = reading r ≡ standing (items.OpenList ∷ (items.Name at ∷ s.stack.items)) s
 
--- `@a(x, y)`: each argument is noted. Of which attributes names are no expressions isn't said here.
+-- the attribute whose list is on top
+abbrev pub attribute_on : Stack → Option Name
+attribute_on s = named attribute_names (word_in s.context (name_on (below_list s.items)))
+
+-- `@a(x, y)`: each argument is noted
 abbrev pub HasArguments : State → State → Type 0
-HasArguments s r = (takes_names : Bool) × (xs : List Part) × AreArguments takes_names s.stack.context (reverse (in_list s.stack.items)) [] xs
+HasArguments s r = (xs : List Part) × AreArguments (takes_names (attribute_on s.stack)) s.stack.context (reverse (in_list s.stack.items)) [] xs
     × (reading r ≡ leaving (below (below_list s.stack.items)) xs s)
 
 abbrev pub AttributeIf : Bool → State → State → Type 0

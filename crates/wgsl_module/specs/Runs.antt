@@ -1,7 +1,8 @@
--- The expressions of a module, run by run: each run is that of the events of a function's body.
-use Rattle.std.specs.Prelude.{◌≡◌, ℕ, List, [], ◌∷◌, Option, Some, None, map}
-use Rattle.wgsl_module.specs.Declarations.{bodies, bodies_of, written}
-use Rattle.wgsl_module.specs.Noted.{Comes, Reading, State, reading}
+-- The expressions of a module, run by run: each run is that of the events of a declaration, or of a function's body.
+use Rattle.std.specs.Prelude.{◌≡◌, ℕ, List, [], ◌∷◌, false, Option, Some, None, length, map, slice_get}
+use Rattle.wgsl_module.specs.Declarations.{Written, bodies_of, written, written_in}
+use Rattle.wgsl_module.specs.Noted.{Comes, DeclaresOverride, DeclaresResult, DeclaresValue, DeclaresVariable, Keeps, Reading, State, Uses, reading}
+use Rattle.wgsl_module.specs.Order.{HasEach}
 use Rattle.wgsl_module.specs.declared.declaration.Declaration.{Declaration}
 use Rattle.wgsl_module.specs.declared.declaration.DeclarationKind.{DeclarationKind}
 use Rattle.wgsl_module.specs.declared.declaration.DeclarationKind.TheVariants as kinds
@@ -19,6 +20,33 @@ cleared s = record { items = []; parts = s.parts; switches = []; text = s.text; 
 -- what comes of events from an empty stack
 abbrev pub IsRun : List Token → List Event → Reading → Reading → Type 0
 IsRun tokens events s r = (first : State) × (last : State) × (reading first ≡ cleared s) × Comes tokens events first last × (r ≡ reading last)
+
+-- Declarations
+
+-- What a declaration takes at its end. The parts of structs and functions are taken in front of it, one by one.
+abbrev pub Ends : DeclarationKind → State → State → Type 0
+Ends kinds.Const s r = DeclaresValue s r
+Ends kinds.Override s r = DeclaresOverride s r
+Ends kinds.Variable s r = DeclaresVariable s r
+Ends kinds.Alias s r = DeclaresResult s r
+Ends kinds.Assertion s r = Uses s r
+Ends other s r = Keeps s r
+
+-- what comes of the events of a declaration, and of its end
+abbrev pub Declares : List Token → DeclarationKind → List Event → State → State → Type 0
+Declares tokens kind events s r = (last : State) × Comes tokens events s last × Ends kind last r
+
+-- the same from an empty stack, if there is that declaration
+abbrev pub IsDeclaration : List Token → Option Written → Reading → Reading → Type 0
+IsDeclaration tokens (Some d) s r = (first : State) × (end : State) × (reading first ≡ cleared s) × Declares tokens d.kind d.events first end × (r ≡ reading end)
+IsDeclaration tokens None s r = r ≡ cleared s
+
+-- what comes of the declarations with these indices, one behind the other
+abbrev pub AreDeclarations : List Token → List Written → List ℕ → Reading → Reading → Type 0
+AreDeclarations tokens ds [] s r = r ≡ s
+AreDeclarations tokens ds (index ∷ order) s r = (between : Reading) × IsDeclaration tokens (slice_get ds index) s between × AreDeclarations tokens ds order between r
+
+-- Bodies
 
 -- the body of a function; nothing else has one
 abbrev pub IsBody : List Token → DeclarationKind → List Event → Reading → Reading → Type 0
@@ -40,16 +68,21 @@ AreBodies tokens ds s r = AreRuns tokens (bodies_of (map written ds)) s r
 
 -- A module
 
--- something is read of this text, which has these tokens
-abbrev pub IsOf : List ℕ → List Token → Reading → Type 0
-IsOf text tokens s = (s.text ≡ text) × (s.tokens ≡ tokens)
+-- its declarations, each once, and behind them the bodies of its functions, in the order of the text
+abbrev pub IsModule : List Token → List Written → Reading → Reading → Type 0
+IsModule tokens ds s r = (order : List ℕ) × (between : Reading) × HasEach 0 (length ds) order
+    × AreDeclarations tokens ds order s between × AreRuns tokens (bodies_of ds) between r
 
--- Behind the expressions of the declarations stand those of the functions' bodies: what their events make, step by step.
+-- nothing is read of this text, which has these tokens
+abbrev pub IsUnread : List ℕ → List Token → Reading → Type 0
+IsUnread text tokens s = (s.parts ≡ []) × (s.text ≡ text) × (s.tokens ≡ tokens)
+
+-- the expressions of a module, by its events
 abbrev pub HasRuns : List ℕ → List Token → List Event → List Part → Type 0
-HasRuns text tokens events parts = (before : Reading) × (after : Reading) × IsOf text tokens before × AreRuns tokens (bodies events) before after
-    × (parts ≡ after.parts)
+HasRuns text tokens events parts = (before : Reading) × (after : Reading) × IsUnread text tokens before
+    × IsModule tokens (written_in false events) before after × (parts ≡ after.parts)
 
 -- the expressions of a module, by what the grammar reads of it
-abbrev pub HasBodies : List ℕ → List Token → List Part → Type 0
-HasBodies text tokens parts = (events : List Event) × (misread : List Misread) × ReadsModule (map kind_of tokens) events misread
+abbrev pub HasParts : List ℕ → List Token → List Part → Type 0
+HasParts text tokens parts = (events : List Event) × (misread : List Misread) × ReadsModule (map kind_of tokens) events misread
     × HasRuns text tokens events parts

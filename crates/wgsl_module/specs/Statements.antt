@@ -1,6 +1,6 @@
 -- What a statement that is read does to those that are open, and what of it is wrong by where control goes on (WGSL, "Control
 -- Flow", "Behaviors").
-use Rattle.std.specs.Prelude.{List, [], ◌∷◌, Bool, true, false, Option, Some, None, cond, not, option_map}
+use Rattle.std.specs.Prelude.{List, [], ◌∷◌, Bool, true, false, Option, Some, None, cond, option_map}
 use Rattle.wgsl_module.specs.Behaviours.{break_alone, continue_alone, either, goes_on, looped, may_break, never_ends, nowhere, return_alone, switched}
 use Rattle.wgsl_module.specs.Flow.{begun_on, below, block_on, body_on, clauses_on, ended, if_on, with_body, with_continuing, without_returned}
 use Rattle.wgsl_module.specs.declared.behaviour.Behaviour.{Behaviour}

@@ -1,5 +1,5 @@
 -- What is told of a text, without the messages.
-use Rattle.std.specs.Prelude.{ℕ, ◌+◌, ◌-◌, ◌^◌, List, Contains, map, min}
+use Rattle.std.specs.Prelude.{◌+◌, ◌-◌, ◌^◌, List, Contains, map, min}
 use Rattle.wgsl_typing.specs.declared.fault.Fault.{Fault}
 use Rattle.wgsl_typing.specs.declared.fault.Place.{Place}
 use Rattle.wgsl_typing.specs.declared.fault.Rule.{Rule}

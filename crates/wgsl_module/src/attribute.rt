@@ -1,4 +1,7 @@
-// Attributes: what may have each, and what is known of those that stand in the text (WGSL, "Attributes"). Only tested.
+// Attributes: what may have each, and what is known of those that stand in the text (WGSL, "Attributes"). Only tested, but for names.
+ghost use Rattle.std.specs.Prelude.{◌≡◌, option_map};
+ghost use Rattle.wgsl_module.specs.Arguments.{attribute_names};
+ghost use Rattle.wgsl_syntax.specs.Names.{named};
 
 /// An attribute of WGSL.
 #[derive(Clone, Copy, PartialEq, Eq)]
@@ -36,34 +39,31 @@ pub enum Owner {
     Statement,
 }
 
-/// An attribute: its word, what may have it, and the least and the greatest number of its arguments.
-pub type Row = (&'static str, Name, Owner, usize, usize);
+/// An attribute, what may have it, and the least and the greatest number of its arguments.
+pub type Row = (Name, Owner, usize, usize);
 
-const ROWS: [Row; 15] = [
-    ("align", Name::Align, Owner::Member, 1, 1),
-    ("binding", Name::Binding, Owner::Variable, 1, 1),
-    ("blend_src", Name::BlendSrc, Owner::InOut, 1, 1),
-    ("builtin", Name::Builtin, Owner::InOut, 1, 1),
-    ("compute", Name::Compute, Owner::Function, 0, 0),
-    ("fragment", Name::Fragment, Owner::Function, 0, 0),
-    ("group", Name::Group, Owner::Variable, 1, 1),
-    ("id", Name::Id, Owner::Override, 1, 1),
-    ("interpolate", Name::Interpolate, Owner::InOut, 1, 2),
-    ("invariant", Name::Invariant, Owner::InOut, 0, 0),
-    ("location", Name::Location, Owner::InOut, 1, 1),
-    ("must_use", Name::MustUse, Owner::Function, 0, 0),
-    ("size", Name::Size, Owner::Member, 1, 1),
-    ("vertex", Name::Vertex, Owner::Function, 0, 0),
-    ("workgroup_size", Name::WorkgroupSize, Owner::Function, 1, 3),
-];
-
-pub fn row_named(word: &str) -> Option<Row> {
-    for row in &ROWS {
-        if row.0 == word {
-            return Some(*row);
-        }
+/// The attribute with this name.
+pub fn row_named(word: &str) -> Option<Row>
+    ensures { option_map (λ row. row.0) result ≡ named attribute_names word.now }
+{
+    match word {
+        "align" => Some((Name::Align, Owner::Member, 1, 1)),
+        "binding" => Some((Name::Binding, Owner::Variable, 1, 1)),
+        "blend_src" => Some((Name::BlendSrc, Owner::InOut, 1, 1)),
+        "builtin" => Some((Name::Builtin, Owner::InOut, 1, 1)),
+        "compute" => Some((Name::Compute, Owner::Function, 0, 0)),
+        "fragment" => Some((Name::Fragment, Owner::Function, 0, 0)),
+        "group" => Some((Name::Group, Owner::Variable, 1, 1)),
+        "id" => Some((Name::Id, Owner::Override, 1, 1)),
+        "interpolate" => Some((Name::Interpolate, Owner::InOut, 1, 2)),
+        "invariant" => Some((Name::Invariant, Owner::InOut, 0, 0)),
+        "location" => Some((Name::Location, Owner::InOut, 1, 1)),
+        "must_use" => Some((Name::MustUse, Owner::Function, 0, 0)),
+        "size" => Some((Name::Size, Owner::Member, 1, 1)),
+        "vertex" => Some((Name::Vertex, Owner::Function, 0, 0)),
+        "workgroup_size" => Some((Name::WorkgroupSize, Owner::Function, 1, 3)),
+        _ => None,
     }
-    None
 }
 
 /// An attribute of the text.

@@ -1,6 +1,6 @@
 // Attributes where they stand, and what their arguments say (WGSL, "Attributes"). Only tested.
-ghost use Rattle.std.specs.Prelude.{[], ◌≡◌, IfOk, reverse};
-ghost use Rattle.wgsl_module.specs.Arguments.{AreArguments, IsArgument, is_const, word_of};
+ghost use Rattle.std.specs.Prelude.{[], ◌≡◌, IfOk, option_map, reverse};
+ghost use Rattle.wgsl_module.specs.Arguments.{AreArguments, IsArgument, is_const, takes_names, word_of};
 ghost use Rattle.wgsl_module.specs.Noted.{AttributeIf, HasArguments, Keeps, OpensAttribute, source, state};
 ghost use Rattle.wgsl_typing.specs.Words.{kind_at};
 
@@ -207,10 +207,8 @@ impl<'t> Checker<'t> {
     {
         let list = self.expressions.take_list()?;
         let named = self.expressions.take_name();
-        let row = row_named(self.word(named));
-        if let None | Some((_, Name::Vertex | Name::Fragment | Name::Compute, _, _, _)) = row {
-            self.pending.have_stage = true;
-        }
+        let row = row_named(self.expressions.word(named));
+        self.pending.have_stage = self.pending.have_stage || is_stage(row);
         let has_list = count > named;
         let arguments = self.arguments(takes_names(row), has_list, list)?;
         self.put_attribute(row, named, &arguments)?;
@@ -301,7 +299,7 @@ impl<'t> Checker<'t> {
         if self.owner == Owner::Statement {
             return Err("can't stand in front of a statement");
         }
-        let Some((_, name, owner, least, most)) = row else {
+        let Some((name, owner, least, most)) = row else {
             return Err("can't stand here");
         };
         let count = arguments.parts.len().saturating_add(arguments.names.len());
@@ -409,11 +407,21 @@ fn word_of(takes_names: bool, item: &Item) -> Option<usize>
     }
 }
 
-/// Whether names are no expressions in the brackets of the attribute, or of one that WGSL doesn't have.
-fn takes_names(row: Option<Row>) -> bool {
+/// Whether an attribute is that of a stage, or one that WGSL doesn't have.
+fn is_stage(row: Option<Row>) -> bool {
     matches!(
         row,
-        None | Some((_, Name::Builtin | Name::Interpolate, _, _, _))
+        None | Some((Name::Vertex | Name::Fragment | Name::Compute, _, _, _))
+    )
+}
+
+/// Whether names are no expressions in the brackets of the attribute, or of one that WGSL doesn't have.
+fn takes_names(row: Option<Row>) -> bool
+    ensures { result ≡ takes_names (option_map (λ row. row.0) row) }
+{
+    matches!(
+        row,
+        None | Some((Name::Builtin | Name::Interpolate, _, _, _))
     )
 }
 

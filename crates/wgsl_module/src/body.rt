@@ -72,10 +72,9 @@ impl<'t> Checker<'t> {
             None => None,
         };
         self.has_faulty_result = field.is_some() && self.result.is_none();
-        self.expressions.items.clear();
+        self.clear();
         self.blocks.clear();
         self.loops.clear();
-        self.switches.clear();
         self.expressions.skipped = (0, 0);
         self.owner = Owner::Statement;
         self.expressions.doing = Some(Doings::none(alloc));

@@ -1,6 +1,7 @@
 // The state of a check.
-ghost use Rattle.std.specs.Prelude.{◌≡◌};
-ghost use Rattle.wgsl_module.specs.Noted.{Keeps, state};
+ghost use Rattle.std.specs.Prelude.{◌≡◌, []};
+ghost use Rattle.wgsl_module.specs.Noted.{Keeps, reading, state};
+ghost use Rattle.wgsl_module.specs.Runs.{cleared};
 
 use crate::attribute::{Attribute, Attributes, Owner};
 use crate::block::Loop;
@@ -58,6 +59,7 @@ pub struct Checker<'t> {
 impl<'t> Checker<'t> {
     /// Nothing is read yet.
     pub fn none(alloc: Global, text: &'t str, tokens: &'t [Token]) -> Checker<'t>
+        ensures parts { (state result).stack.parts ≡ [] }
         ensures text { (state result).stack.context.text ≡ text.now }
         ensures tokens { (state result).stack.context.tokens ≡ tokens.now }
     {
@@ -79,6 +81,14 @@ impl<'t> Checker<'t> {
             result: None,
             has_faulty_result: false,
         }
+    }
+
+    /// Nothing stands on the stack any more.
+    pub fn clear(&mut self)
+        ensures { reading (state self.new) ≡ cleared (reading (state self.old)) }
+    {
+        self.expressions.items.clear();
+        self.switches.clear();
     }
 
     /// Takes what is known of a declaration beside its name's meaning; `keep` gives it back.

@@ -1,12 +1,9 @@
-// Values that a module declares: `const`, `override` and `var` (WGSL, "Value Declarations", "Variable Declarations"), and the
-// numbers that tell them apart. Only tested.
-ghost use Rattle.std.specs.Prelude.{◌≡◌, IfOk};
-ghost use Rattle.wgsl_module.specs.Noted.{Keeps, reading, source, standing, state};
-ghost use Rattle.wgsl_typing.specs.Stacks.{below_space};
+// Overrides and variables of a module (WGSL, "Value Declarations", "Variable Declarations"), and the numbers that tell them apart.
+ghost use Rattle.std.specs.Prelude.{IfOk};
+ghost use Rattle.wgsl_module.specs.Noted.{DeclaresOverride, DeclaresVariable, Keeps, state};
 
 use crate::attribute::{Attributes, Name};
 use crate::checker::Checker;
-use crate::declaration::DeclarationKind;
 use std::alloc::AllocError;
 use wgsl_forms::declare::{Declaration as Form, override_without_value};
 use wgsl_forms::variable::holds;
@@ -14,7 +11,7 @@ use wgsl_syntax::address::{AccessMode, AddressSpace};
 use wgsl_typing::count::has_override_count;
 use wgsl_typing::declared::Declared;
 use wgsl_typing::fault::{Place, Rule};
-use wgsl_typing::known::{Known, Part, Typed};
+use wgsl_typing::known::{Part, Typed};
 use wgsl_typing::stage::Stage;
 use wgsl_typing::structs::behind;
 
@@ -22,62 +19,45 @@ use wgsl_typing::structs::behind;
 type Space = Option<(AddressSpace, Option<AccessMode>)>;
 
 impl<'t> Checker<'t> {
-    /// `const`, `override` and `var` of a module.
-    pub fn read_value(
+    /// `override x: T = y;`
+    pub fn read_override(
         &mut self,
-        kind: DeclarationKind,
         named: usize,
         attributes: Attributes,
-    ) -> Result<Known, AllocError>
-        ensures { IfOk result (λ x. source (state self.new) ≡ source (state self.old)) }
+    ) -> Result<Option<Typed>, AllocError>
+        ensures { IfOk result (λ x. DeclaresOverride (state self.old) (state self.new)) }
     {
-        let part = self.value_part(kind)?;
+        let part = self.expressions.take_initializer()?;
         let declared = self.expressions.take_declared()?;
         self.expressions.take_name();
-        if kind == DeclarationKind::Override {
-            self.check_id(named, attributes)?;
-        }
-        let typed = self.value_typed(kind, named, part.as_ref(), &declared, attributes)?;
+        self.check_id(named, attributes)?;
+        let Some(part) = part else {
+            return self.override_without_value(named, &declared);
+        };
+        let typed = self
+            .expressions
+            .typed_value(Form::Override, &part, &declared)?;
+        self.expressions.note(part)?;
+        Ok(typed)
+    }
+
+    /// `var<private> x: T = y;` of a module.
+    pub fn read_global(
+        &mut self,
+        named: usize,
+        attributes: Attributes,
+    ) -> Result<Option<Typed>, AllocError>
+        ensures { IfOk result (λ x. DeclaresVariable (state self.old) (state self.new)) }
+    {
+        let part = self.expressions.take_initializer()?;
+        let declared = self.expressions.take_declared()?;
+        self.expressions.take_name();
+        let space = self.expressions.take_space();
+        let typed = self.variable_in(space, named, part.as_ref(), &declared, attributes)?;
         if let Some(part) = part {
             self.expressions.note(part)?;
         }
-        match typed {
-            Some(typed) if attributes.are_fine => Ok(Known::Value(typed)),
-            _ => Ok(Known::Faulty),
-        }
-    }
-
-    /// The expression behind the `=`.
-    fn value_part(&mut self, kind: DeclarationKind) -> Result<Option<Part>, AllocError>
-        ensures { IfOk result (λ x. source (state self.new) ≡ source (state self.old)) }
-    {
-        match kind {
-            DeclarationKind::Const => Ok(Some(self.expressions.take_part()?)),
-            _ => self.expressions.take_initializer(),
-        }
-    }
-
-    fn value_typed(
-        &mut self,
-        kind: DeclarationKind,
-        named: usize,
-        part: Option<&Part>,
-        declared: &Declared,
-        attributes: Attributes,
-    ) -> Result<Option<Typed>, AllocError>
-        ensures { IfOk result (λ x. source (state self.new) ≡ source (state self.old)) }
-    {
-        match (kind, part) {
-            (DeclarationKind::Variable, _) => {
-                self.module_variable(named, part, declared, attributes)
-            }
-            (DeclarationKind::Override, None) => self.constant_without_value(named, declared),
-            (DeclarationKind::Override, Some(part)) => {
-                self.expressions.typed_value(Form::Override, part, declared)
-            }
-            (_, Some(part)) => self.expressions.typed_value(Form::Const, part, declared),
-            (_, None) => Ok(None),
-        }
+        Ok(typed)
     }
 
     /// The number of an override stands once, and is at most 65,535.
@@ -96,7 +76,7 @@ impl<'t> Checker<'t> {
         Ok(())
     }
 
-    fn constant_without_value(
+    fn override_without_value(
         &mut self,
         named: usize,
         declared: &Declared,
@@ -118,19 +98,6 @@ impl<'t> Checker<'t> {
             }
             Declared::Faulty => Ok(None),
         }
-    }
-
-    fn module_variable(
-        &mut self,
-        named: usize,
-        part: Option<&Part>,
-        declared: &Declared,
-        attributes: Attributes,
-    ) -> Result<Option<Typed>, AllocError>
-        ensures { IfOk result (λ x. reading (state self.new) ≡ standing (below_space (state self.old).stack.items) (state self.old)) }
-    {
-        let space = self.expressions.take_space();
-        self.variable_in(space, named, part, declared, attributes)
     }
 
     /// The variable in this address space, or in what stands in its place; None if that is told or has a fault.

@@ -1,4 +1,4 @@
-// Declarations in functions (WGSL, "Value Declarations", "Variable Declarations").
+// Values, and variables of functions (WGSL, "Value Declarations", "Variable Declarations").
 ghost use Rattle.std.specs.Prelude.{◌≡◌, IfOk};
 ghost use Rattle.wgsl_module.specs.Noted.{DeclaresValue, DeclaresVariable, Keeps, reading, standing, state};
 ghost use Rattle.wgsl_typing.specs.Stacks.{below_space};
@@ -31,12 +31,23 @@ impl<'t> Checker<'t> {
     pub fn declare_value(&mut self, declaration: Declaration) -> Result<(), AllocError>
         ensures { IfOk result (λ u. DeclaresValue (state self.old) (state self.new)) }
     {
+        let (named, typed) = self.read_value(declaration)?;
+        self.bind(named, typed)
+    }
+
+    /// The name of a value, and what it is if it has no fault.
+    pub fn read_value(
+        &mut self,
+        declaration: Declaration,
+    ) -> Result<(usize, Option<Typed>), AllocError>
+        ensures { IfOk result (λ x. DeclaresValue (state self.old) (state self.new)) }
+    {
         let part = self.expressions.take_part()?;
         let declared = self.expressions.take_declared()?;
         let named = self.expressions.take_name();
         let typed = self.expressions.typed_value(declaration, &part, &declared)?;
         self.expressions.note(part)?;
-        self.bind(named, typed)
+        Ok((named, typed))
     }
 
     /// `var x: T = y;`

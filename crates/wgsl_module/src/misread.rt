@@ -1,7 +1,8 @@
 // What the grammar doesn't read.
-ghost use Rattle.std.specs.Prelude.{◌≡◌, IfOk, map};
-ghost use Rattle.wgsl_module.specs.Declarations.{bodies_of, written};
-ghost use Rattle.wgsl_module.specs.Noted.{state};
+ghost use Rattle.std.specs.Prelude.{◌≡◌, IfOk, List, map};
+ghost use Rattle.wgsl_module.specs.Declarations.{written};
+ghost use Rattle.wgsl_module.specs.Noted.{Reading, state};
+ghost use Rattle.wgsl_module.specs.Runs.{IsModule};
 ghost use Rattle.wgsl_module.specs.Told.{broken, unread};
 
 use crate::checker::Checker;
@@ -9,6 +10,7 @@ use crate::declaration::{Declaration, DeclarationKind};
 use std::alloc::{AllocError, Global};
 use wgsl_reader::kind::Kind;
 use wgsl_reader::module::Misread;
+use wgsl_reader::token::Token;
 use wgsl_source::text::Text;
 use wgsl_typing::fault::{Fault, Place, Rule};
 
@@ -49,7 +51,8 @@ fn unread(alloc: Global, text: Text<'_>, misread: Misread) -> Result<Fault, Allo
 impl<'t> Checker<'t> {
     /// Declares the names of what the grammar doesn't read, which are faulty.
     pub fn declare_misread(&mut self, all: &[Misread]) -> Result<(), AllocError>
-        ensures bodies { IfOk result (λ u. bodies_of (map written self.new.declarations.items) ≡ bodies_of (map written self.old.declarations.items)) }
+        ensures module { IfOk result (λ u. (tokens : List Token) (s r : Reading) → IsModule tokens (map written self.new.declarations.items) s r
+            → IsModule tokens (map written self.old.declarations.items) s r) }
         ensures stack { (state self.new).stack ≡ (state self.old).stack }
     {
         for misread in all {

@@ -1,8 +1,10 @@
 // The check of a module.
-ghost use Rattle.std.specs.Prelude.{◌≡◌, [], IfOk, map, slice_get, true};
+ghost use Rattle.std.specs.Prelude.{◌≡◌, ℕ, [], IfOk, List, length, map, option_map, slice_get, true};
 ghost use Rattle.wgsl_module.specs.Checked.{AreTyped, IsRead, TellsReading, are_known, told_of_reading};
-ghost use Rattle.wgsl_module.specs.Noted.{Keeps, Reading, reading, source, state};
-ghost use Rattle.wgsl_module.specs.Runs.{AreBodies, HasBodies, HasRuns, IsOf};
+ghost use Rattle.wgsl_module.specs.Declarations.{written};
+ghost use Rattle.wgsl_module.specs.Noted.{Comes, Keeps, reading, source, state};
+ghost use Rattle.wgsl_module.specs.Order.{HasEach};
+ghost use Rattle.wgsl_module.specs.Runs.{AreDeclarations, Declares, Ends, HasParts, HasRuns, IsDeclaration, IsModule};
 ghost use Rattle.wgsl_module.specs.Told.{AreTold, broken};
 
 use crate::attribute::{Attributes, Owner};
@@ -14,6 +16,7 @@ use crate::told::{in_order, joined};
 use crate::untyped::{are_known, tell_untyped};
 use crate::walk::Link;
 use std::alloc::{AllocError, Global};
+use wgsl_forms::declare::Declaration as Form;
 use wgsl_reader::kind::Kind;
 use wgsl_reader::mark::Mark;
 use wgsl_reader::module::{Misread, Module, read_module};
@@ -23,7 +26,7 @@ use wgsl_source::text::{Text, tokens};
 use wgsl_typing::expressions::{Expressions, Named};
 use wgsl_typing::extension::is_required;
 use wgsl_typing::fault::{Fault, Place, Rule};
-use wgsl_typing::known::{Known, Part};
+use wgsl_typing::known::{Known, Part, Typed};
 use wgsl_typing::scope::{Bound, Locals};
 
 /// What is found of a module: its expressions, and what is wrong.
@@ -51,7 +54,7 @@ pub fn check<'t>(
     ensures reading { IfOk result (λ c. TellsReading c.tokens.items c.faults.items) }
     ensures read { IfOk result (λ c. c.faults.items ≡ [] → IsRead c.tokens.items) }
     ensures typed { IfOk result (λ c. are_known given.entry.items ≡ true → c.faults.items ≡ [] → AreTyped c.parts.items) }
-    ensures bodies { IfOk result (λ c. HasBodies text.now c.tokens.items c.parts.items) }
+    ensures parts { IfOk result (λ c. HasParts text.now c.tokens.items c.parts.items) }
 {
     let tokens = tokens(alloc, text.as_bytes())?;
     let grammar = read_module(alloc, &tokens)?;
@@ -73,7 +76,7 @@ fn read_all<'t>(
     grammar: &'t Module,
 ) -> Result<Checked, AllocError>
     ensures told { IfOk result (λ c. AreTold (told_of_reading tokens.now grammar.now.events.items grammar.now.misread.items) c.faults.items) }
-    ensures bodies { IfOk result (λ c. HasRuns text.now tokens.now grammar.now.events.items c.parts.items) }
+    ensures parts { IfOk result (λ c. HasRuns text.now tokens.now grammar.now.events.items c.parts.items) }
 {
     let mut checker = Checker::none(alloc, text, tokens);
     checker.declarations = declarations(alloc, &grammar.events)?;
@@ -152,13 +155,13 @@ impl<'t> Checker<'t> {
         tokens: &[Token],
         given: Vec<(&'t str, Known)>,
     ) -> Result<(), AllocError>
-        ensures { IfOk result (λ u. (between : Reading) × IsOf (state self.old).stack.context.text (state self.old).stack.context.tokens between
-            × AreBodies tokens.now self.old.declarations.items between (reading (state self.new))) }
+        ensures { IfOk result (λ u. IsModule tokens.now (map written self.old.declarations.items) (reading (state self.old)) (reading (state self.new))) }
     {
         self.declare_all(tokens, given)?;
         self.read_bodies(tokens)?;
         self.check_calls()?;
-        self.check_entry_points()
+        self.check_entry_points()?;
+        Ok(())
     }
 
     /// Reads the declarations, each behind those that it needs.
@@ -167,14 +170,25 @@ impl<'t> Checker<'t> {
         tokens: &[Token],
         given: Vec<(&'t str, Known)>,
     ) -> Result<(), AllocError>
-        ensures { IfOk result (λ u. source (state self.new) ≡ source (state self.old)) }
+        ensures declarations { IfOk result (λ u. (order : List ℕ) × HasEach 0 (length (map written self.old.declarations.items)) order
+            × AreDeclarations tokens.now (map written self.old.declarations.items) order (reading (state self.old)) (reading (state self.new))) }
+        ensures source { IfOk result (λ u. source (state self.new) ≡ source (state self.old)) }
     {
         self.name_all()?;
         for (name, known) in given {
             self.give(name, known)?;
         }
         let named = self.walk(0, self.declarations.len(), Link::Name)?;
-        for index in &named.order {
+        self.declare_in(tokens, &named.order)?;
+        Ok(())
+    }
+
+    /// Reads the declarations with these indices.
+    fn declare_in(&mut self, tokens: &[Token], order: &[usize]) -> Result<(), AllocError>
+        ensures declarations { IfOk result (λ u. AreDeclarations tokens.now (map written self.old.declarations.items) order.now (reading (state self.old)) (reading (state self.new))) }
+        ensures source { IfOk result (λ u. source (state self.new) ≡ source (state self.old)) }
+    {
+        for index in order {
             self.declare(tokens, *index)?;
         }
         Ok(())
@@ -256,33 +270,32 @@ impl<'t> Checker<'t> {
 
     /// Reads a declaration behind those that it needs.
     fn declare(&mut self, tokens: &[Token], index: usize) -> Result<(), AllocError>
-        ensures { IfOk result (λ u. source (state self.new) ≡ source (state self.old)) }
+        ensures declaration { IfOk result (λ u. IsDeclaration tokens.now (option_map written (slice_get self.old.declarations.items index)) (reading (state self.old)) (reading (state self.new))) }
+        ensures source { IfOk result (λ u. source (state self.new) ≡ source (state self.old)) }
     {
+        self.clear();
         let Some(declaration) = self.declaration(index) else {
             return Ok(());
         };
-        self.expressions.items.clear();
-        let known = match declaration.kind {
-            DeclarationKind::Enable | DeclarationKind::Directive => {
-                self.read_directive(tokens, declaration)?;
-                Known::Faulty
-            }
-            DeclarationKind::Misread => Known::Faulty,
-            _ => self.read_declaration(tokens, index, declaration)?,
-        };
+        self.begin_declaration(declaration)?;
+        let known = self.read_declaration(tokens, index, declaration)?;
         self.expressions.put_known(index, Some(known));
         Ok(())
     }
 
-    fn read_directive(
-        &mut self,
-        tokens: &[Token],
-        declaration: Declaration<'t>,
-    ) -> Result<(), AllocError>
-        ensures { IfOk result (λ u. source (state self.new) ≡ source (state self.old)) }
+    /// Directives enable extensions, and filter diagnostics together: the attributes of others filter on their own.
+    fn begin_declaration(&mut self, declaration: Declaration<'t>) -> Result<(), AllocError>
+        ensures { IfOk result (λ u. Keeps (state self.old) (state self.new)) }
     {
-        self.tell_extensions(declaration)?;
-        self.steps(tokens, declaration.events)
+        match declaration.kind {
+            DeclarationKind::Enable | DeclarationKind::Directive => self.tell_extensions(
+                declaration,
+            ),
+            _ => {
+                self.filters.clear();
+                Ok(())
+            }
+        }
     }
 
     /// Enables extensions, and says which names are none.
@@ -310,23 +323,38 @@ impl<'t> Checker<'t> {
         Ok(())
     }
 
+    /// Reads a declaration. Returns what its name stands for.
+    fn read_declaration(
+        &mut self,
+        tokens: &[Token],
+        index: usize,
+        declaration: Declaration<'t>,
+    ) -> Result<Known, AllocError>
+        ensures declaration { IfOk result (λ k. Declares tokens.now declaration.entry.kind declaration.entry.events.now (state self.old) (state self.new)) }
+        ensures source { IfOk result (λ k. source (state self.new) ≡ source (state self.old)) }
+    {
+        let attributes = self.read_events(tokens, declaration)?;
+        self.end_declaration(index, declaration, attributes)
+    }
+
     /// Reads the events of a declaration. Returns its attributes.
     fn read_events(
         &mut self,
         tokens: &[Token],
         declaration: Declaration<'t>,
     ) -> Result<Attributes, AllocError>
-        ensures { IfOk result (λ u. source (state self.new) ≡ source (state self.old)) }
+        ensures events { IfOk result (λ a. Comes tokens.now declaration.entry.events.now (state self.old) (state self.new)) }
+        ensures source { IfOk result (λ a. source (state self.new) ≡ source (state self.old)) }
     {
-        let (events, named) = (declaration.events, declaration.named.unwrap_or(0));
-        let split = events.partition_point(|event| event.at < named);
+        let named = declaration.named.unwrap_or(0);
+        let split = declaration.events.partition_point(|event| event.at < named);
+        let (front, rest) = declaration.events.split_at(split);
         self.owner = match declaration.kind {
             DeclarationKind::Variable => Owner::Variable,
             DeclarationKind::Override => Owner::Override,
             _ => Owner::Function,
         };
-        self.filters.clear();
-        self.steps(tokens, events.get(..split).unwrap_or(&[]))?;
+        self.steps(tokens, front)?;
         let attributes = self.take_attributes();
         self.owner = match declaration.kind {
             DeclarationKind::Struct => Owner::Member,
@@ -338,43 +366,76 @@ impl<'t> Checker<'t> {
             result: None,
             attributes,
         });
-        self.steps(tokens, events.get(split..).unwrap_or(&[]))?;
+        self.steps(tokens, rest)?;
         Ok(attributes)
     }
 
-    fn read_declaration(
+    /// Takes what the events of a declaration have left. Returns what its name stands for.
+    fn end_declaration(
         &mut self,
-        tokens: &[Token],
         index: usize,
         declaration: Declaration<'t>,
+        attributes: Attributes,
     ) -> Result<Known, AllocError>
-        ensures { IfOk result (λ u. source (state self.new) ≡ source (state self.old)) }
+        ensures taken { IfOk result (λ k. Ends declaration.entry.kind (state self.old) (state self.new)) }
+        ensures source { IfOk result (λ k. source (state self.new) ≡ source (state self.old)) }
     {
         let named = declaration.named.unwrap_or(0);
-        let attributes = self.read_events(tokens, declaration)?;
         match declaration.kind {
-            DeclarationKind::Alias => {
-                match self.expressions.take_type()? {
-                    (_, Some(ty)) => Ok(Known::Type(ty)),
-                    (_, None) => Ok(Known::Faulty),
-                }
+            DeclarationKind::Const => {
+                let (_, value) = self.read_value(Form::Const)?;
+                Ok(known_value(value, attributes))
             }
-            DeclarationKind::Struct | DeclarationKind::Function => {
-                let Some(interface) = self.interface.take() else {
-                    return Ok(Known::Faulty);
-                };
-                let known = match declaration.kind {
-                    DeclarationKind::Struct => self.structure(named, &interface.fields)?,
-                    _ => self.signature(named, &interface)?,
-                };
-                self.keep(index, interface);
-                Ok(known)
+            DeclarationKind::Override => {
+                let value = self.read_override(named, attributes)?;
+                Ok(known_value(value, attributes))
             }
+            DeclarationKind::Variable => {
+                let value = self.read_global(named, attributes)?;
+                Ok(known_value(value, attributes))
+            }
+            DeclarationKind::Alias => match self.expressions.take_type()? {
+                (_, Some(ty)) => Ok(Known::Type(ty)),
+                (_, None) => Ok(Known::Faulty),
+            },
             DeclarationKind::Assertion => {
                 self.assert()?;
                 Ok(Known::Faulty)
             }
-            kind => self.read_value(kind, named, attributes),
+            DeclarationKind::Struct | DeclarationKind::Function => {
+                self.read_interface(index, declaration.kind, named)
+            }
+            DeclarationKind::Enable | DeclarationKind::Directive | DeclarationKind::Misread => {
+                Ok(Known::Faulty)
+            }
         }
+    }
+
+    /// What a struct or a function with the fields that are read stands for.
+    fn read_interface(
+        &mut self,
+        index: usize,
+        kind: DeclarationKind,
+        named: usize,
+    ) -> Result<Known, AllocError>
+        ensures { IfOk result (λ k. Keeps (state self.old) (state self.new)) }
+    {
+        let Some(interface) = self.interface.take() else {
+            return Ok(Known::Faulty);
+        };
+        let known = match kind {
+            DeclarationKind::Struct => self.structure(named, &interface.fields)?,
+            _ => self.signature(named, &interface)?,
+        };
+        self.keep(index, interface);
+        Ok(known)
+    }
+}
+
+/// A value, if neither it nor an attribute has a fault.
+fn known_value(value: Option<Typed>, attributes: Attributes) -> Known {
+    match value {
+        Some(typed) if attributes.are_fine => Known::Value(typed),
+        _ => Known::Faulty,
     }
 }

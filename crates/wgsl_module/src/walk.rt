@@ -1,4 +1,6 @@
 // Declarations that lead to one another: the order in which they are read, and which functions call which.
+ghost use Rattle.std.specs.Prelude.{◌≡◌, ℕ, ◌≤◌, ◌<◌, IfOk, Some, true, length, slice_get};
+ghost use Rattle.wgsl_module.specs.Order.{HasEach, IsOrder, StaysDone, is_done};
 
 use crate::checker::Checker;
 use std::alloc::AllocError;
@@ -24,6 +26,13 @@ enum State {
     Done,
 }
 
+/// How far each declaration is followed, and the indices of those that are done.
+#[derive(Drop)]
+struct Order {
+    states: Vec<State>,
+    indices: Vec<usize>,
+}
+
 /// What is found where declarations are followed.
 #[derive(Drop)]
 pub struct Walk {
@@ -35,14 +44,17 @@ pub struct Walk {
 
 impl<'t> Checker<'t> {
     /// Follows the declarations from one index up to another.
-    pub fn walk(&self, from: usize, to: usize, link: Link) -> Result<Walk, AllocError> {
+    pub fn walk(&self, from: usize, to: usize, link: Link) -> Result<Walk, AllocError>
+        ensures { IfOk result (λ w. to ≤ length self.now.declarations.items → HasEach from to w.order.items) }
+    {
         let alloc = self.expressions.alloc;
-        let mut states = vec![in alloc; State::Unseen; self.declarations.len()]?;
-        let (mut order, mut cycles) = (Vec::new(alloc), Vec::new(alloc));
-        let mut open = Vec::new(alloc);
+        let mut order = Order {
+            states: vec![in alloc; State::Unseen; self.declarations.len()]?,
+            indices: Vec::new(alloc),
+        };
+        let (mut cycles, mut open) = (Vec::new(alloc), Vec::new(alloc));
         for root in from..to {
-            if states.get(root) == Some(&State::Unseen) {
-                set(&mut states, root, State::Open);
+            if order.is_opened(root) {
                 open.push((root, 0usize))?;
             }
             for _ in 0..u64::MAX {
@@ -50,22 +62,24 @@ impl<'t> Checker<'t> {
                     break;
                 };
                 let Some((next, place, behind)) = self.next(link, index, at) else {
-                    set(&mut states, index, State::Done);
-                    order.push(index)?;
+                    order.close(index)?;
                     continue;
                 };
                 open.push((index, behind))?;
-                match states.get(next) {
-                    Some(State::Open) => cycles.push((next, place))?,
-                    Some(State::Unseen) => {
-                        set(&mut states, next, State::Open);
-                        open.push((next, 0))?;
-                    }
-                    _ => {}
+                if order.is_opened(next) {
+                    open.push((next, 0))?;
+                } else if order.state(next) == Some(State::Open) {
+                    cycles.push((next, place))?;
                 }
             }
+            // Done already, unless the bound above was met.
+            order.close(root)?;
         }
-        Ok(Walk { order, cycles })
+        let Order { indices, .. } = order;
+        Ok(Walk {
+            order: indices,
+            cycles,
+        })
     }
 
     /// What a declaration leads to next, from an index of its events or calls on; where, and the index behind that.
@@ -110,8 +124,49 @@ impl<'t> Checker<'t> {
     }
 }
 
-fn set(states: &mut [State], index: usize, state: State) {
-    if let Some(now) = states.get_mut(index) {
-        *now = state;
+impl Order {
+    fn state(&self, index: usize) -> Option<State>
+        ensures { result ≡ slice_get self.now.states.items index }
+    {
+        self.states.get(index).copied()
     }
+
+    /// Whether a declaration isn't seen yet. From then on it is open.
+    fn is_opened(&mut self, index: usize) -> bool
+        ensures done { (i : ℕ) → is_done (slice_get self.new.states.items i) ≡ is_done (slice_get self.old.states.items i) }
+        ensures len { length self.new.states.items ≡ length self.old.states.items }
+        ensures indices { self.new.indices.items ≡ self.old.indices.items }
+    {
+        match self.state(index) {
+            Some(State::Unseen) => {
+                self.states[index] = State::Open;
+                true
+            }
+            _ => false,
+        }
+    }
+
+    /// Puts a declaration behind those that are done, unless it is one of them.
+    fn close(&mut self, index: usize) -> Result<(), AllocError>
+        ensures order { IfOk result (λ u. IsOrder self.old.states.items self.old.indices.items → IsOrder self.new.states.items self.new.indices.items) }
+        ensures kept { IfOk result (λ u. StaysDone self.old.states.items self.new.states.items) }
+        ensures done { IfOk result (λ u. index < length self.old.states.items → is_done (slice_get self.new.states.items index) ≡ true) }
+        ensures len { length self.new.states.items ≡ length self.old.states.items }
+    {
+        let Some(state) = self.state(index) else {
+            return Ok(());
+        };
+        if is_done(state) {
+            return Ok(());
+        }
+        self.states[index] = State::Done;
+        self.indices.push(index)?;
+        Ok(())
+    }
+}
+
+fn is_done(state: State) -> bool
+    ensures { result ≡ is_done (Some state) }
+{
+    matches!(state, State::Done)
 }

@@ -1,4 +1,4 @@
-use Rattle.std.proofs.Common.{◌≡◌, ℕ, List, [], reverse, vec_len}
+use Rattle.std.proofs.Common.{◌≡◌, List, [], reverse, vec_len}
 use Rattle.wgsl_module.specs.Arguments.{AreArguments}
 use Rattle.wgsl_module.specs.Noted.{state}
 use Rattle.wgsl_typing.specs.declared.known.Part.{Part}

@@ -1,8 +1,12 @@
-use Rattle.std.proofs.Common.{◌≡◌, map}
-use Rattle.wgsl_module.specs.Declarations.{bodies_of, written}
-use Rattle.wgsl_module.specs.Noted.{state}
+use Rattle.std.proofs.Common.{◌≡◌, List, map}
+use Rattle.wgsl_module.specs.Declarations.{written}
+use Rattle.wgsl_module.specs.Noted.{Reading, state}
+use Rattle.wgsl_module.specs.Runs.{IsModule}
+use Rattle.wgsl_reader.specs.declared.token.Token.{Token}
 use Rattle.wgsl_module.proofs.checker.Checker.declare_misread.Given as goal
 
--- the bodies of functions stay, and so does all that is read
+-- what is read of the declarations is that of those that were there
 abbrev pub invariant-loop-misread : goal.invariant-loop-misread
-invariant-loop-misread l = (bodies_of (map written l.self.declarations.items) ≡ bodies_of (map written l.fn.self.declarations.items)) × ((state l.self).stack ≡ (state l.fn.self).stack)
+invariant-loop-misread l =
+    ((tokens : List Token) (s r : Reading) → IsModule tokens (map written l.self.declarations.items) s r
+    → IsModule tokens (map written l.fn.self.declarations.items) s r) × ((state l.self).stack ≡ (state l.fn.self).stack)

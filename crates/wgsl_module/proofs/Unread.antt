@@ -1,0 +1,60 @@
+-- What the grammar doesn't read has no expressions.
+use Rattle.std.proofs.Common.{◌≡◌, ◌∙◌, ◌<◌, ℕ, zero, suc, List, [], ◌∷◌, ◌++◌, Some, ap, arith, length, map, slice_get, subst}
+use Rattle.std.proofs.lemmas.List.{map_push}
+use Rattle.wgsl_module.specs.Declarations.{Written, bodies_of, body_by, written}
+use Rattle.wgsl_module.specs.Noted.{Comes, Reading, State, reading}
+use Rattle.wgsl_module.specs.Runs.{AreDeclarations, AreRuns, Ends, IsDeclaration, IsModule, cleared}
+use Rattle.wgsl_module.specs.declared.declaration.Declaration.{Declaration}
+use Rattle.wgsl_module.specs.declared.declaration.DeclarationKind.{DeclarationKind}
+use Rattle.wgsl_module.specs.declared.declaration.DeclarationKind.TheVariants as kinds
+use Rattle.wgsl_reader.specs.declared.read.Event.{Event}
+use Rattle.wgsl_reader.specs.declared.token.Token.{Token}
+
+no_event : (tokens : List Token) (events : List Event) (s r : State) → events ≡ [] → Comes tokens events s r → r ≡ s
+no_event tokens [] s r none same = same
+no_event tokens (e ∷ events) s r none come = cc none
+
+no_end : (kind : DeclarationKind) (s r : State) → kind ≡ kinds.Misread → Ends kind s r → reading r ≡ reading s
+no_end kind s r is end = subst (λ k. Ends k s r) is end
+
+no_events : (tokens : List Token) (x : Written) (s r : Reading) → x.kind ≡ kinds.Misread → x.events ≡ [] → IsDeclaration tokens (Some x) s r → r ≡ cleared s
+no_events tokens x s r kind none is =
+    is.4 ∙ (no_end x.kind is.3.0 is.1 kind is.3.2 ∙ (ap reading (no_event tokens x.events is.0 is.3.0 none is.3.1) ∙ is.2))
+
+one_fewer : (tokens : List Token) (ws : List Written) (x : Written) (index : ℕ) (s r : Reading) → x.kind ≡ kinds.Misread → x.events ≡ []
+    → IsDeclaration tokens (slice_get (ws ++ x ∷ []) index) s r → IsDeclaration tokens (slice_get ws index) s r
+one_fewer tokens [] x zero s r kind none is = no_events tokens x s r kind none is
+one_fewer tokens [] x (suc index) s r kind none is = is
+one_fewer tokens (w ∷ ws) x zero s r kind none is = is
+one_fewer tokens (w ∷ ws) x (suc index) s r kind none is = one_fewer tokens ws x index s r kind none is
+
+fewer : (tokens : List Token) (ws : List Written) (x : Written) (order : List ℕ) (s r : Reading) → x.kind ≡ kinds.Misread → x.events ≡ []
+    → AreDeclarations tokens (ws ++ x ∷ []) order s r → AreDeclarations tokens ws order s r
+fewer tokens ws x [] s r kind none are = are
+fewer tokens ws x (index ∷ order) s r kind none are =
+    (are.0, one_fewer tokens ws x index s are.0 kind none are.1, fewer tokens ws x order are.0 r kind none are.2)
+
+within : (ws : List Written) (x : Written) (i : ℕ) → i < length ws → i < length (ws ++ x ∷ [])
+within [] x i below = absurd (omega (arith, below))
+within (w ∷ ws) x zero below = omega arith
+within (w ∷ ws) x (suc i) below = let rest = within ws x i (omega (arith, below)) in omega (arith, rest)
+
+no_body : (ws : List Written) (x : Written) → x.kind ≡ kinds.Misread → bodies_of (ws ++ x ∷ []) ≡ bodies_of ws
+no_body [] x is = ap (λ k. body_by k x.body ++ []) is
+no_body (w ∷ ws) x is = ap (λ bs. body_by w.kind w.body ++ bs) (no_body ws x is)
+
+without_last : (tokens : List Token) (ws : List Written) (x : Written) (s r : Reading) → x.kind ≡ kinds.Misread → x.events ≡ []
+    → IsModule tokens (ws ++ x ∷ []) s r → IsModule tokens ws s r
+without_last tokens ws x s r kind none is = (
+  is.0,
+  is.1,
+  λ i above below. is.2 i above (within ws x i below),
+  fewer tokens ws x is.0 s is.1 kind none is.3,
+  subst (λ bs. AreRuns tokens bs is.1 r) (no_body ws x kind) is.4,
+)
+
+pub misread_pushed : (tokens : List Token) (all ds : List Declaration) (x : Declaration) (s r : Reading) → all ≡ ds ++ x ∷ [] → x.kind ≡ kinds.Misread
+    → x.events.now ≡ [] → IsModule tokens (map written all) s r → IsModule tokens (map written ds) s r
+misread_pushed tokens all ds x s r pushed kind none is =
+    without_last tokens (map written ds) (written x) s r kind none
+    (subst (λ ws. IsModule tokens ws s r) (ap (map written) pushed ∙ map_push written ds x) is)

@@ -1,0 +1,25 @@
+use Rattle.std.proofs.Common.{◌≡◌, ◌∙◌, ◌++◌, [], ap, reverse, subst}
+use Rattle.std.proofs.lemmas.Result.{IfOk-weaker}
+use Rattle.wgsl_module.specs.Arguments.{AreArguments, attribute_names, takes_names}
+use Rattle.wgsl_module.specs.Noted.{HasArguments, Reading, attribute_on, noted, reading, state}
+use Rattle.wgsl_module.proofs.checker.Checker.put_arguments.Goals as goal
+use Rattle.wgsl_syntax.specs.Names.{named}
+use Rattle.wgsl_typing.specs.Names.{word_in}
+use Rattle.wgsl_typing.specs.Stacks.{below, name_on, stack, with_items}
+
+pub returns-clause-arguments : goal.returns-clause-arguments
+returns-clause-arguments c =
+    let s = state c.args.self.now in
+    let xs = c.in_ok-arguments.arguments.parts.items in
+    let left = c.take_name-named.ensures.rest ∙ ap (λ t. with_items (below t.items) t) c.in_ok-list.ensures.rest in
+    let name = c.take_name-named.ensures.name ∙ ap (λ t. name_on t.items) c.in_ok-list.ensures.rest in
+    let word = c.word.ensures ∙ (ap (λ t. word_in t.context c.take_name-named.result) left ∙ ap (word_in s.stack.context) name) in
+    let takes = c.takes_names.ensures ∙ ap takes_names (c.row_named-row.ensures ∙ ap (named attribute_names) word) in
+    let are = subst (λ b. AreArguments b (stack c.take_name-named.new.self).context (reverse c.in_ok-list.list.items) [] xs) takes c.in_ok-arguments.ensures.arguments in
+    let there = subst (λ k. AreArguments (takes_names (attribute_on s.stack)) k (reverse c.in_ok-list.list.items) [] xs) (ap (λ t. t.context) left) are in
+    let all = subst (λ l. AreArguments (takes_names (attribute_on s.stack)) s.stack.context (reverse l) [] xs) c.in_ok-list.ensures.list there in
+    let kept = c.put_attribute.ensures ∙ (ap reading c.arguments.ensures.state
+    ∙ ap (λ t. reading (record { stack = t; switches = s.switches; declarations = s.declarations })) left) in
+    let put = ap (λ (q : Reading). let p : Reading = record { items = q.items; parts = q.parts ++ xs; switches = q.switches; text = q.text; tokens = q.tokens; declarations = q.declarations } in p) kept in
+    IfOk-weaker c.note_values.result (λ u. state c.note_values.new.self ≡ noted xs (state c.put_attribute.new.self))
+    (λ u. HasArguments s (state c.note_values.new.self)) (λ u same. (xs, all, ap reading same ∙ put)) c.note_values.ensures
