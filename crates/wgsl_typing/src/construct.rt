@@ -15,7 +15,7 @@ use std::alloc::AllocError;
 use wgsl_core::ty::Type;
 use wgsl_core::ty::form::Form;
 use wgsl_names::fault::{Place, Rule};
-use wgsl_names::known::Outcome;
+use wgsl_names::known::{Outcome, Part};
 use wgsl_names::stage::Stage;
 use wgsl_standard::callee::Callee;
 
@@ -26,7 +26,22 @@ impl<'t> Expressions<'t> {
         ensures stack { stack self.new ≡ stack self.old }
     {
         let found = inferred_of(self.alloc, call.arguments)?;
+        if let Ok(ty) = &found {
+            self.are_elements(ty, call.arguments)?;
+        }
         self.made(call.head, found, self.stage_of(call.arguments))
+    }
+
+    /// Tells of the values that are out of the range of an array's elements.
+    fn are_elements(&mut self, ty: &Type, values: &[Part]) -> Result<(), AllocError>
+        ensures stack { stack self.new ≡ stack self.old }
+    {
+        if let Form::Array(_, of) = ty.form() {
+            for value in values {
+                self.argument_value(value, Some(of))?;
+            }
+        }
+        Ok(())
     }
 
     /// What a constructor makes; faulty if it makes nothing, for that reason.
