@@ -4,9 +4,9 @@ use crate::stage::Stage;
 use crate::value::Value;
 use wgsl_constants::call::{Arguments, CallError, Function};
 use wgsl_constants::constant::Constant;
-use wgsl_constants::integer::IntegerError;
+use wgsl_constants::integer::{Integer, IntegerError};
 use wgsl_constants::operator::negative;
-use wgsl_constants::vector::{Size, Vector};
+use wgsl_constants::vector::{COMPONENTS, Size, Vector};
 use wgsl_core::ty::Type;
 use wgsl_core::ty::form::Form;
 use wgsl_reader::kind::Kind;
@@ -84,10 +84,33 @@ pub fn wrong_right(
     right: Option<Value>,
     stage: Stage,
 ) -> Option<&'static str> {
-    let by = right?.integer()?.value();
-    let left = match left?.form() {
+    match right? {
+        Value::One(Constant::Integer(by)) => wrong_by(operator, left?, by, stage),
+        Value::One(_) => None,
+        Value::Several(vector) => {
+            for which in &COMPONENTS {
+                if let Some(by) = vector.component(*which) {
+                    if let Some(message) = wrong_by(operator, left?, by, stage) {
+                        return Some(message);
+                    }
+                }
+            }
+            None
+        }
+    }
+}
+
+/// What is wrong with this integer, or component, on the right.
+fn wrong_by(
+    operator: BinaryOperator,
+    left: &Type,
+    by: Integer,
+    stage: Stage,
+) -> Option<&'static str> {
+    let by = by.value();
+    let left = match left.form() {
         Form::Vector(_, of) => of,
-        _ => left?,
+        _ => left,
     };
     let is_concrete = matches!(left, Type::I32 | Type::U32);
     match operator {

@@ -11,7 +11,7 @@ use crate::call::Call;
 use crate::count::has_override_count;
 use crate::expressions::Expressions;
 use crate::fault::{Place, Rule};
-use crate::known::Outcome;
+use crate::known::{Outcome, Part};
 use crate::name::typed;
 use crate::stage::Stage;
 use std::alloc::AllocError;
@@ -26,7 +26,22 @@ impl<'t> Expressions<'t> {
         ensures stack { stack self.new ≡ stack self.old }
     {
         let found = inferred_of(self.alloc, call.arguments)?;
+        if let Ok(ty) = &found {
+            self.are_elements(ty, call.arguments)?;
+        }
         self.made(call.head, found, self.stage_of(call.arguments))
+    }
+
+    /// Tells of the values that are out of the range of an array's elements.
+    fn are_elements(&mut self, ty: &Type, values: &[Part]) -> Result<(), AllocError>
+        ensures stack { stack self.new ≡ stack self.old }
+    {
+        if let Form::Array(_, of) = ty.form() {
+            for value in values {
+                self.argument_value(value, Some(of))?;
+            }
+        }
+        Ok(())
     }
 
     /// What a constructor makes; faulty if it makes nothing, for that reason.
