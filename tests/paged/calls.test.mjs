@@ -97,12 +97,7 @@ test("a million calls leave the memory as it is", { timeout: 300_000 }, () => {
 test("no text makes a call fail", () => {
   const pieces = LIGHT.split(/\b/);
   let seed = 1;
-  const next = (n) => {
-    seed = (seed + 0x6d2b79f5) | 0;
-    let bits = Math.imul(seed ^ (seed >>> 15), 1 | seed);
-    bits ^= bits + Math.imul(bits ^ (bits >>> 7), 61 | bits);
-    return ((bits ^ (bits >>> 14)) >>> 0) % n;
-  };
+  const next = (n) => ((seed = (Math.imul(seed, 1103515245) + 12345) >>> 0) >>> 8) % n;
   let wrong = 0;
   for (let round = 0; round < 3000; round++) {
     const copy = [...pieces];
