@@ -78,8 +78,8 @@ export function namesShader(request, text) {
 
 /** The expressions of a text that a test accepts by where they start and end, the shortest first; none before it is checked. */
 function partsWhere(text, accepts) {
-  const found = [], { parts, kinds } = last;
-  for (let at = 0; isChecked(text) && at < parts.length; at += 4) {
+  const found = [], { parts, kinds } = last, count = isChecked(text) ? parts.length : 0;
+  for (let at = 0; at < count; at += 4) {
     const index = parts[at], end = parts[at + 1];
     if (accepts(index, end)) found.push({ index, end: { index: end }, ...kinds[parts[at + 2]], declared: parts[at + 3] });
   }
