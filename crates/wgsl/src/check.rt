@@ -6,7 +6,7 @@ use crate::{CLEAN, FOUND, UNREAD, VERSION, print, refuse};
 use std::alloc::{AllocError, Global};
 use std::io::IsTerminal;
 use std::process::ExitCode;
-use wgsl_faults::report::{CheckOptions, Form, check_text};
+use wgsl_report::faults::{CheckOptions, Form, check_text};
 
 const HELP: &str = "\
 usage: wgsl check [--json | --short] [--types] [--stdin-filename NAME] [--] FILE...

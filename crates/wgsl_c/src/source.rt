@@ -4,8 +4,8 @@ ghost use Rattle.wgsl_c.specs.HandOver.{IsAnswer, IsCode, IsText, IsTold, IsTran
 
 use crate::hand_over::hand_over;
 use std::alloc::{AllocError, Global};
-use wgsl_faults::report::{CheckOptions, CheckReport, Form, check_text};
 use wgsl_replies::request::{Reply, TextKind};
+use wgsl_report::faults::{CheckOptions, CheckReport, Form, check_text};
 use wgsl_report::report::{Format, Report, ReportOptions, report_on};
 use wgsl_report::shown::Style;
 

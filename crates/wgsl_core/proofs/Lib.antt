@@ -5,7 +5,7 @@ pub mod Equals
 pub mod Scalars
 pub mod Forms
 pub mod Sames
-pub mod Refused
+pub mod Fields
 pub mod Layouts
 pub mod Recognition
 pub mod Ranks

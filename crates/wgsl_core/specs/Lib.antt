@@ -3,6 +3,7 @@ pub mod Instances
 pub mod Answer
 pub mod Forms
 pub mod Equality
+pub mod Fields
 pub mod Converted
 pub mod RefusalEquality
 pub mod ResultStruct

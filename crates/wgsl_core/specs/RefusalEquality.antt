@@ -1,9 +1,9 @@
 -- Equality of template parameters, signatures and refusals as tests, which are true exactly for equal ones.
-use Rattle.std.specs.Prelude.{◌≡◌, ℕ, ℤ, pos, negsuc, Bool, true, false, List}
+use Rattle.std.specs.Prelude.{◌≡◌, ℕ, zero, suc, ℤ, pos, negsuc, Bool, true, false, List}
 use Rattle.std.specs.Bool.{Decides}
 use Rattle.std.specs.Cmp.{decided, partial_equiv_from_equiv, on_equiv, IsPartialEquivalence}
 use Rattle.std.specs.Ordering.{on}
-use Rattle.std.proofs.Common.{refl, ap}
+use Rattle.std.proofs.Common.{refl, ap, sym, ◌∙◌}
 use denote.Enum.Bare.{Bare, sameb, same_true, same_false}
 use denote.Enum.Declared.{Declared}
 use mathlib.Core.List.{List-discrete}
@@ -22,6 +22,7 @@ use Rattle.wgsl_rules.proofs.types.Equality.{both, by, same_type, same_option}
 use Rattle.wgsl_core.specs.Equality.{is_yes, yes_decides}
 use Rattle.wgsl_core.specs.Instances.{parameter_view, signature_view}
 use Rattle.wgsl_core.specs.Answer.{refusal}
+use Rattle.wgsl_core.specs.Fields.{Field, no_field, text_field, type_field, literal_field, number_field, unary_field, binary_field, call_field, Fields, fields_of}
 
 by_test : {P : Type 0} (t : Bool) → (t ≡ true → P) → (t ≡ false → P → ⊥) → Dec P
 by_test true so not_so = yes (so refl)
@@ -29,12 +30,6 @@ by_test false so not_so = no (not_so refl)
 
 bare : (D : Declared) → Bare D.parts → (a b : D.D) → Dec (a ≡ b)
 bare D no_fields a b = by_test (sameb D a b) (same_true D no_fields a b) (same_false D a b)
-
-same_unary : (a b : UnaryOperator) → Dec (a ≡ b)
-same_unary = bare unary_type tt
-
-same_binary : (a b : BinaryOperator) → Dec (a ≡ b)
-same_binary = bare binary_type tt
 
 same_bool : (a b : Bool) → Dec (a ≡ b)
 same_bool true true = yes refl
@@ -77,44 +72,70 @@ same_signature a b =
     (λ e. (ap (λ (s : Signature). s.name) e, (ap (λ (s : Signature). s.template) e, ap (λ (s : Signature). s.arguments) e)))
     (both (same_text a.name b.name) (both (same_option (List-discrete same_parameter) a.template b.template) (List-discrete same_type a.arguments b.arguments)))
 
+same_field : (a b : Field) → Dec (a ≡ b)
+same_field no_field no_field = yes refl
+same_field (text_field a) (text_field b) = by (λ p. ap text_field p) (λ q. cc q) (same_text a b)
+same_field (type_field a) (type_field b) = by (λ p. ap type_field p) (λ q. cc q) (same_type a b)
+same_field (literal_field a) (literal_field b) = by (λ p. ap literal_field p) (λ q. cc q) (same_literal a b)
+same_field (number_field a) (number_field b) = by (λ p. ap number_field p) (λ q. cc q) (ℕ_discrete a b)
+same_field (unary_field a) (unary_field b) = by (λ p. ap unary_field p) (λ q. cc q) (bare unary_type tt a b)
+same_field (binary_field a) (binary_field b) = by (λ p. ap binary_field p) (λ q. cc q) (bare binary_type tt a b)
+same_field (call_field a) (call_field b) = by (λ p. ap call_field p) (λ q. cc q) (same_signature a b)
+same_field a b = no (λ q. (cc q))
+
+same_fields : (a b : Fields) → Dec (a ≡ b)
+same_fields a b =
+    by (λ p i. (p.0 i, p.1.0 i, p.1.1.0 i, p.1.1.1 i))
+    (λ e. (ap (λ (f : Fields). f.0) e, (ap (λ (f : Fields). f.1) e, (ap (λ (f : Fields). f.2) e, ap (λ (f : Fields). f.3) e))))
+    (both (ℕ_discrete a.0 b.0) (both (same_field a.1 b.1) (both (same_field a.2 b.2) (same_field a.3 b.3))))
+
+-- the refusal that has these fields
+of_fields : Fields → Refusal
+of_fields (zero, text_field s, no_field, no_field) = todo s
+of_fields (zero, type_field t, no_field, no_field) = not_scalar t
+of_fields (suc zero, type_field t, no_field, no_field) = not_constructible t
+of_fields (suc (suc zero), type_field t, no_field, no_field) = sampled_type t
+of_fields (suc zero, text_field s, no_field, no_field) = unknown_type s
+of_fields (suc (suc zero), text_field s, no_field, no_field) = unexpected_template s
+of_fields (suc (suc (suc zero)), text_field s, no_field, no_field) = missing_template s
+of_fields (zero, type_field n, type_field t, no_field) = write_ref_type n t
+of_fields (zero, no_field, no_field, no_field) = not_write
+of_fields (suc zero, no_field, no_field, no_field) = not_read
+of_fields (suc (suc zero), no_field, no_field, no_field) = not_read_write
+of_fields (suc (suc (suc zero)), no_field, no_field, no_field) = ptr_handle
+of_fields (suc (suc (suc (suc zero))), no_field, no_field, no_field) = ptr_vec_comp
+of_fields (suc zero, type_field a, type_field b, no_field) = conversion a b
+of_fields (zero, literal_field l, type_field t, no_field) = conv_overflow l t
+of_fields (zero, type_field t, text_field s, no_field) = component t s
+of_fields (suc (suc (suc zero)), type_field t, no_field, no_field) = not_indexable t
+of_fields (zero, number_field i, type_field t, number_field n) = out_of_bounds i t n
+of_fields (zero, unary_field o, type_field t, no_field) = unary o t
+of_fields (zero, binary_field o, type_field a, type_field b) = binary o a b
+of_fields (suc (suc zero), type_field a, type_field b, no_field) = compwise_binary a b
+of_fields (suc (suc (suc (suc (suc zero)))), no_field, no_field, no_field) = add_overflow
+of_fields (suc (suc (suc (suc (suc (suc zero))))), no_field, no_field, no_field) = sub_overflow
+of_fields (suc (suc (suc (suc (suc (suc (suc zero)))))), no_field, no_field, no_field) = mul_overflow
+of_fields (suc (suc (suc (suc (suc (suc (suc (suc zero))))))), no_field, no_field, no_field) = div_by_zero
+of_fields (suc (suc (suc (suc (suc (suc (suc (suc (suc zero)))))))), no_field, no_field, no_field) = rem_zero_div
+of_fields (zero, number_field n, literal_field l, no_field) = shl_overflow n l
+of_fields (suc zero, number_field n, literal_field l, no_field) = shr_overflow n l
+of_fields (zero, call_field c, no_field, no_field) = signature c
+of_fields (suc (suc (suc (suc zero))), text_field s, no_field, no_field) = builtin s
+of_fields (suc (suc (suc (suc (suc zero)))), text_field s, no_field, no_field) = template_args s
+of_fields (zero, text_field s, number_field e, number_field n) = param_count s e n
+of_fields (suc (suc (suc zero)), type_field e, type_field t, no_field) = param_type e t
+of_fields f = not_write
+
+of_its_fields : (r : Refusal) → of_fields (fields_of r) ≡ r
+unfolding of_fields
+of_its_fields (todo s) = refl
+of_its_fields r = refl
+
+pub refusal_of_fields : (a b : Refusal) → fields_of a ≡ fields_of b → a ≡ b
+refusal_of_fields a b e = sym (of_its_fields a) ∙ (ap of_fields e ∙ of_its_fields b)
+
 same_refusal : (a b : Refusal) → Dec (a ≡ b)
-same_refusal (todo a) (todo b) = by (λ p. ap todo p) (λ q. cc q) (same_text a b)
-same_refusal (not_scalar a) (not_scalar b) = by (λ p. ap not_scalar p) (λ q. cc q) (same_type a b)
-same_refusal (not_constructible a) (not_constructible b) = by (λ p. ap not_constructible p) (λ q. cc q) (same_type a b)
-same_refusal (sampled_type a) (sampled_type b) = by (λ p. ap sampled_type p) (λ q. cc q) (same_type a b)
-same_refusal (unknown_type a) (unknown_type b) = by (λ p. ap unknown_type p) (λ q. cc q) (same_text a b)
-same_refusal (unexpected_template a) (unexpected_template b) = by (λ p. ap unexpected_template p) (λ q. cc q) (same_text a b)
-same_refusal (missing_template a) (missing_template b) = by (λ p. ap missing_template p) (λ q. cc q) (same_text a b)
-same_refusal (write_ref_type a0 a1) (write_ref_type b0 b1) = by (λ p. cc (p.0, p.1)) (λ q. (cc q, cc q)) (both (same_type a0 b0) (same_type a1 b1))
-same_refusal not_write not_write = yes refl
-same_refusal not_read not_read = yes refl
-same_refusal not_read_write not_read_write = yes refl
-same_refusal ptr_handle ptr_handle = yes refl
-same_refusal ptr_vec_comp ptr_vec_comp = yes refl
-same_refusal (conversion a0 a1) (conversion b0 b1) = by (λ p. cc (p.0, p.1)) (λ q. (cc q, cc q)) (both (same_type a0 b0) (same_type a1 b1))
-same_refusal (conv_overflow a0 a1) (conv_overflow b0 b1) = by (λ p. cc (p.0, p.1)) (λ q. (cc q, cc q)) (both (same_literal a0 b0) (same_type a1 b1))
-same_refusal (component a0 a1) (component b0 b1) = by (λ p. cc (p.0, p.1)) (λ q. (cc q, cc q)) (both (same_type a0 b0) (same_text a1 b1))
-same_refusal (not_indexable a) (not_indexable b) = by (λ p. ap not_indexable p) (λ q. cc q) (same_type a b)
-same_refusal (out_of_bounds a0 a1 a2) (out_of_bounds b0 b1 b2) =
-    by (λ p. cc (p.0, p.1.0, p.1.1)) (λ q. (cc q, (cc q, cc q))) (both (ℕ_discrete a0 b0) (both (same_type a1 b1) (ℕ_discrete a2 b2)))
-same_refusal (unary a0 a1) (unary b0 b1) = by (λ p. cc (p.0, p.1)) (λ q. (cc q, cc q)) (both (same_unary a0 b0) (same_type a1 b1))
-same_refusal (binary a0 a1 a2) (binary b0 b1 b2) =
-    by (λ p. cc (p.0, p.1.0, p.1.1)) (λ q. (cc q, (cc q, cc q))) (both (same_binary a0 b0) (both (same_type a1 b1) (same_type a2 b2)))
-same_refusal (compwise_binary a0 a1) (compwise_binary b0 b1) = by (λ p. cc (p.0, p.1)) (λ q. (cc q, cc q)) (both (same_type a0 b0) (same_type a1 b1))
-same_refusal add_overflow add_overflow = yes refl
-same_refusal sub_overflow sub_overflow = yes refl
-same_refusal mul_overflow mul_overflow = yes refl
-same_refusal div_by_zero div_by_zero = yes refl
-same_refusal rem_zero_div rem_zero_div = yes refl
-same_refusal (shl_overflow a0 a1) (shl_overflow b0 b1) = by (λ p. cc (p.0, p.1)) (λ q. (cc q, cc q)) (both (ℕ_discrete a0 b0) (same_literal a1 b1))
-same_refusal (shr_overflow a0 a1) (shr_overflow b0 b1) = by (λ p. cc (p.0, p.1)) (λ q. (cc q, cc q)) (both (ℕ_discrete a0 b0) (same_literal a1 b1))
-same_refusal (signature a) (signature b) = by (λ p. ap signature p) (λ q. cc q) (same_signature a b)
-same_refusal (builtin a) (builtin b) = by (λ p. ap builtin p) (λ q. cc q) (same_text a b)
-same_refusal (template_args a) (template_args b) = by (λ p. ap template_args p) (λ q. cc q) (same_text a b)
-same_refusal (param_count a0 a1 a2) (param_count b0 b1 b2) =
-    by (λ p. cc (p.0, p.1.0, p.1.1)) (λ q. (cc q, (cc q, cc q))) (both (same_text a0 b0) (both (ℕ_discrete a1 b1) (ℕ_discrete a2 b2)))
-same_refusal (param_type a0 a1) (param_type b0 b1) = by (λ p. cc (p.0, p.1)) (λ q. (cc q, cc q)) (both (same_type a0 b0) (same_type a1 b1))
-same_refusal a b = no (λ q. (cc q))
+same_refusal a b = by (refusal_of_fields a b) (λ q. ap fields_of q) (same_fields (fields_of a) (fields_of b))
 
 pub parameter_eq : Parameter → Parameter → Bool
 parameter_eq a b = is_yes (same_parameter a b)

@@ -1,7 +1,9 @@
 // Refusals, and out of memory.
 mod clone;
 mod eq;
+mod fields;
 
+use crate::error::fields::{Fields, Texts};
 use crate::literal::LiteralInstance;
 use crate::signature::CallSignature;
 use crate::ty::Type;
@@ -130,73 +132,12 @@ impl fmt::Display for Error {
     ghost output = { λ e. Some (message (refusal e)) };
 
     fn fmt<W: Write>(&self, f: &mut fmt::Formatter<W>) -> fmt::Result {
-        match self {
-            Error::Todo(v) => write!(f, "not implemented: `{v}`"),
-            Error::NotScalar(t) => write!(f, "expected a scalar type, got `{t}`"),
-            Error::NotConstructible(t) => write!(f, "`{t}` is not constructible"),
-            Error::SampledType(t) => write!(
-                f,
-                "invalid sampled type, expected `i32`, `u32` or `f32`, got `{t}`"
-            ),
-            Error::UnknownType(s) => write!(f, "unknown type `{s}`"),
-            Error::UnexpectedTemplate(s) => write!(
-                f,
-                "type `{s}` does not take any template arguments"
-            ),
-            Error::MissingTemplate(s) => write!(f, "missing template arguments for type `{s}`"),
-            Error::WriteRefType(n, t) => write!(f, "cannot write a `{n}` to a reference to `{t}`"),
-            Error::NotWrite => f.write_str("attempt to write to a read-only reference"),
-            Error::NotRead => f.write_str("attempt to read a write-only reference"),
-            Error::NotReadWrite => f.write_str("reference is not read-write"),
-            Error::PtrHandle => f.write_str("cannot create a pointer in `handle` address space"),
-            Error::PtrVecComp => f.write_str("cannot create a pointer to a vector component"),
-            Error::Conversion(a, b) => write!(f, "cannot convert from `{a}` to `{b}`"),
-            Error::ConvOverflow(l, t) => write!(f, "overflow while converting `{l}` to `{t}`"),
-            Error::Component(t, s) => write!(f, "`{t}` has no component `{s}`"),
-            Error::NotIndexable(t) => write!(f, "`{t}` cannot be indexed"),
-            Error::OutOfBounds(i, t, n) => write!(
-                f,
-                "index `{i}` is out-of-bounds for `{t}` of `{n}` components"
-            ),
-            Error::Unary(o, t) => write!(f, "cannot use unary operator `{o}` on type `{t}`"),
-            Error::Binary(o, a, b) => write!(
-                f,
-                "cannot use binary operator `{o}` with operands `{a}` and `{b}`"
-            ),
-            Error::CompwiseBinary(a, b) => {
-                write!(
-                    f,
-                    "cannot apply component-wise binary operation on operands `{a}` and `{b}`"
-                )
-            }
-            Error::AddOverflow => f.write_str("attempt to add with overflow"),
-            Error::SubOverflow => f.write_str("attempt to subtract with overflow"),
-            Error::MulOverflow => f.write_str("attempt to multiply with overflow"),
-            Error::DivByZero => f.write_str("attempt to divide by zero"),
-            Error::RemZeroDiv => f.write_str(
-                "attempt to calculate the remainder with a divisor of zero",
-            ),
-            Error::ShlOverflow(n, l) => write!(
-                f,
-                "attempt to shift left by `{n}`, which would overflow `{l}`"
-            ),
-            Error::ShrOverflow(n, l) => write!(
-                f,
-                "attempt to shift right by `{n}`, which would overflow `{l}`"
-            ),
-            Error::Signature(c) => write!(f, "invalid function call signature: `{c}`"),
-            Error::Builtin(s) => f.write_str(s),
-            Error::TemplateArgs(s) => write!(f, "invalid template arguments to `{s}`"),
-            Error::ParamCount(s, e, n) => {
-                write!(
-                    f,
-                    "incorrect number of arguments to `{s}`, expected `{e}`, got `{n}`"
-                )
-            }
-            Error::ParamType(e, t) => write!(
-                f,
-                "invalid parameter type, expected `{e}`, got `{t}`"
-            ),
+        let Fields(_, x, y, z) = self.fields();
+        match self.texts() {
+            Texts::Whole(t) => f.write_str(t),
+            Texts::One(t, u) => write!(f, "{t}{x}{u}"),
+            Texts::Two(t, u, v) => write!(f, "{t}{x}{u}{y}{v}"),
+            Texts::Three(t, u, v, w) => write!(f, "{t}{x}{u}{y}{v}{z}{w}"),
         }
     }
 }

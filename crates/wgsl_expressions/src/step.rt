@@ -2,7 +2,7 @@
 ghost use Rattle.std.specs.Prelude.{◌≡◌, ◌∷◌, IfOk, None, Some, length, map};
 ghost use Rattle.wgsl_core.specs.View.{view};
 ghost use Rattle.wgsl_expressions.specs.Outcomes.{IsCalled, no_parts, overloaded, with_part};
-ghost use Rattle.wgsl_expressions.specs.Prelude.{a_binary};
+ghost use Rattle.wgsl_expressions.specs.Prelude.{a_binary, a_unary};
 ghost use Rattle.wgsl_expressions.specs.Source.{noted};
 ghost use Rattle.wgsl_expressions.specs.Stack.{a_call};
 ghost use Rattle.wgsl_expressions.specs.Steps.{Argument, Binary, Calls, Element, Ends, Given, Literal, Member, Opens, Unary, asks_behind, asks_call, call_with, given};
@@ -231,17 +231,29 @@ fn put_unary(source: &Source<'_>, index: usize, items: &mut Items) -> Read<()>
     let x = take_operand(source, items)?;
     let count = take_place(source, items)?;
     match unary_of(source.kind_at(count)) {
-        Some(operator) => {
-            let at = source.byte_at(count);
-            let head = Head::Unary(operator);
-            let parts = with_part(Ok(Vec::with_capacity(source.alloc, 1)?), x)?;
-            end_call(source, index, Call { at, head, parts }, items)
-        }
+        Some(operator) => end_unary(source, index, source.byte_at(count), operator, x, items),
         None => {
             drop(x);
             Err(source.misread(count, Wanted::Operand))
         }
     }
+}
+
+/// Puts a unary expression whose operator is at that byte, or its type if nothing is asked about it.
+fn end_unary(
+    source: &Source<'_>,
+    index: usize,
+    at: usize,
+    operator: UnaryOperator,
+    x: Outcome,
+    items: &mut Items,
+) -> Read<()>
+    ensures { Does (Ends (source_view source.now) index (call_with at (overloaded (a_unary operator) None) (with_part no_parts (outcome_view x)))
+        (items_view items.old.items)) items.new.items result }
+{
+    let head = Head::Unary(operator);
+    let parts = with_part(Ok(Vec::with_capacity(source.alloc, 1)?), x)?;
+    end_call(source, index, Call { at, head, parts }, items)
 }
 
 /// `a + b`
@@ -278,10 +290,33 @@ fn end_binary(
         (items_view items.old.items)) items.new.items result }
 {
     if is_asked(source, index) {
-        let head = Head::Binary(operator);
-        let parts = with_part(with_part(Ok(Vec::with_capacity(source.alloc, 2)?), x)?, y)?;
-        return push(Item::Call(Call { at, head, parts }), items);
+        return push_binary(source.alloc, at, operator, x, y, items);
     }
     let outcome = binary(source.alloc, at, operator, x, y)?;
     put(source, outcome, items)
+}
+
+/// Puts a binary expression about which something is asked.
+fn push_binary(
+    alloc: Global,
+    at: usize,
+    operator: BinaryOperator,
+    x: Outcome,
+    y: Outcome,
+    items: &mut Items,
+) -> Read<()>
+    ensures { Does (λ r. r ≡ Some (a_call (call_with at (overloaded (a_binary operator) None) (with_part (with_part no_parts (outcome_view x)) (outcome_view y)))
+        ∷ items_view items.old.items)) items.new.items result }
+{
+    let head = Head::Binary(operator);
+    let parts = both(alloc, x, y)?;
+    push(Item::Call(Call { at, head, parts }), items)
+}
+
+/// Two operands as parts.
+fn both(alloc: Global, x: Outcome, y: Outcome) -> Made<Parts>
+    ensures { IfOk result (λ all. shown (λ v. map typed_view v.items) refused_view all ≡ with_part (with_part no_parts (outcome_view x)) (outcome_view y)) }
+{
+    let parts = with_part(Ok(Vec::with_capacity(alloc, 2)?), x)?;
+    with_part(parts, y)
 }

@@ -4,11 +4,11 @@ use Rattle.wgsl_module.specs.Checked.{IsRead, told_of_reading}
 use Rattle.wgsl_module.specs.Control.{AreAllowed, State, behind, behind_all, is_allowed, outside, told_by, told_if, told_of}
 use Rattle.wgsl_module.specs.Flow.{is_returned}
 use Rattle.wgsl_module.specs.Told.{AreTold, Broken, broken, unread}
-use Rattle.wgsl_names.specs.Faults.{last_of}
-use Rattle.wgsl_names.specs.declared.fault.Fault.{Fault}
-use Rattle.wgsl_names.specs.declared.fault.Place.{Place}
-use Rattle.wgsl_names.specs.declared.fault.Rule.{Rule}
-use Rattle.wgsl_names.specs.declared.fault.Rule.TheVariants as rules
+use Rattle.wgsl_typing.specs.Faults.{last_of}
+use Rattle.wgsl_typing.specs.declared.fault.Fault.{Fault}
+use Rattle.wgsl_typing.specs.declared.fault.Place.{Place}
+use Rattle.wgsl_typing.specs.declared.fault.Rule.{Rule}
+use Rattle.wgsl_typing.specs.declared.fault.Rule.TheVariants as rules
 use Rattle.wgsl_module.proofs.Kept.{nothing}
 use Rattle.wgsl_reader.specs.Modules.{ReadsModule}
 use Rattle.wgsl_reader.specs.Reading.{kind_of}

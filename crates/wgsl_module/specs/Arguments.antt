@@ -1,6 +1,6 @@
 -- What stands in the brackets of an attribute (WGSL, "Attributes").
 use Rattle.std.specs.Prelude.{◌≡◌, ℕ, List, [], ◌∷◌, ◌++◌, Bool, true, false, Option, Some, None}
-use Rattle.wgsl_names.specs.declared.known.Part.{Part}
+use Rattle.wgsl_typing.specs.declared.known.Part.{Part}
 use Rattle.wgsl_reader.specs.declared.kind.Kind.{Kind}
 use Rattle.wgsl_reader.specs.declared.kind.Kind.TheVariants.{Const}
 use Rattle.wgsl_typing.specs.Names.{Context}

@@ -8,10 +8,10 @@ use Rattle.wgsl_module.specs.declared.control.Control.{Control}
 use Rattle.wgsl_module.specs.declared.frame.Around.{Around}
 use Rattle.wgsl_module.specs.declared.frame.Frame.{Frame}
 use Rattle.wgsl_module.specs.declared.frame.Frame.TheVariants.{Returned}
-use Rattle.wgsl_names.specs.Faults.{last_of}
-use Rattle.wgsl_names.specs.declared.fault.Place.{Place}
-use Rattle.wgsl_names.specs.declared.fault.Rule.{Rule}
-use Rattle.wgsl_names.specs.declared.fault.Rule.TheVariants as rules
+use Rattle.wgsl_typing.specs.Faults.{last_of}
+use Rattle.wgsl_typing.specs.declared.fault.Place.{Place}
+use Rattle.wgsl_typing.specs.declared.fault.Rule.{Rule}
+use Rattle.wgsl_typing.specs.declared.fault.Rule.TheVariants as rules
 use Rattle.wgsl_reader.specs.declared.kind.Kind.{Kind}
 use Rattle.wgsl_reader.specs.declared.mark.Mark.{Mark}
 use Rattle.wgsl_reader.specs.declared.mark.Mark.TheVariants as m

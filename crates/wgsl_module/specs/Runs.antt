@@ -5,7 +5,7 @@ use Rattle.wgsl_module.specs.Noted.{Comes, Reading, State, reading}
 use Rattle.wgsl_module.specs.declared.declaration.Declaration.{Declaration}
 use Rattle.wgsl_module.specs.declared.declaration.DeclarationKind.{DeclarationKind}
 use Rattle.wgsl_module.specs.declared.declaration.DeclarationKind.TheVariants as kinds
-use Rattle.wgsl_names.specs.declared.known.Part.{Part}
+use Rattle.wgsl_typing.specs.declared.known.Part.{Part}
 use Rattle.wgsl_reader.specs.Modules.{ReadsModule}
 use Rattle.wgsl_reader.specs.Reading.{kind_of}
 use Rattle.wgsl_reader.specs.declared.module.Misread.{Misread}

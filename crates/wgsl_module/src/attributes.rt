@@ -8,12 +8,12 @@ use crate::attribute::{Attribute, Attributes, Name, Owner, Row, row_named};
 use crate::checker::Checker;
 use std::alloc::AllocError;
 use wgsl_core::ty::Type;
-use wgsl_names::fault::Rule;
-use wgsl_names::known::Part;
 use wgsl_reader::kind::Kind;
 use wgsl_source::fault::{Cause, Expected};
 use wgsl_source::meant::is_severity;
+use wgsl_typing::fault::Rule;
 use wgsl_typing::item::Item;
+use wgsl_typing::known::Part;
 use wgsl_typing::meant::nearest_of;
 
 /// The names that `@interpolate` takes: first how, then where a value is sampled.

@@ -10,11 +10,11 @@ use crate::field::Field;
 use std::alloc::{AllocError, Global};
 use wgsl_core::ty::Type;
 use wgsl_forms::declare::{is_const_type, is_let_type};
-use wgsl_names::known::Typed;
-use wgsl_names::stage::Stage;
 use wgsl_reader::read::Event;
 use wgsl_reader::token::Token;
 use wgsl_typing::expressions::Doings;
+use wgsl_typing::known::Typed;
+use wgsl_typing::stage::Stage;
 
 impl<'t> Checker<'t> {
     /// Reads the bodies of the functions.

@@ -10,11 +10,11 @@ use crate::switch::Switch;
 use std::alloc::{AllocError, Global};
 use std::collections::{BTreeMap, BTreeSet};
 use wgsl_core::ty::Type;
-use wgsl_names::fault::{Place, Rule};
 use wgsl_reader::token::Token;
 use wgsl_source::fault::Cause;
 use wgsl_source::meant::{Declared, meant};
 use wgsl_typing::expressions::{Doings, Expressions};
+use wgsl_typing::fault::{Place, Rule};
 
 /// What is known of a declaration beside its name's meaning: a struct's members, or the parameters, the result and the attributes
 /// of a function.

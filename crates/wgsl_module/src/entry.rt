@@ -9,11 +9,11 @@ use std::alloc::AllocError;
 use std::collections::{BTreeMap, BTreeSet};
 use wgsl_core::ty::Type;
 use wgsl_core::ty::form::Form;
-use wgsl_names::fault::Rule;
-use wgsl_names::known::Known;
 use wgsl_syntax::address::{AccessMode, AddressSpace};
 use wgsl_syntax::overload::Stages;
 use wgsl_syntax::texture_name::TextureParameters;
+use wgsl_typing::fault::Rule;
+use wgsl_typing::known::Known;
 
 impl<'t> Checker<'t> {
     pub fn check_entry_points(&mut self) -> Result<(), AllocError>

@@ -11,11 +11,11 @@ use wgsl_core::ty::{StructMemberType, StructType, Type};
 use wgsl_forms::declare::is_const_type;
 use wgsl_forms::lists::are_parameters;
 use wgsl_forms::refusal::Refusal;
-use wgsl_names::fault::{Place, Rule};
-use wgsl_names::known::{Known, Signature};
-use wgsl_names::structs::{Declared, short, size_and_align};
 use wgsl_typing::count::is_element;
+use wgsl_typing::fault::{Place, Rule};
+use wgsl_typing::known::{Known, Signature};
 use wgsl_typing::list::DEPTH;
+use wgsl_typing::structs::{Declared, short, size_and_align};
 
 /// A member of a struct, a parameter or the result of a function.
 #[derive(Drop)]

@@ -10,13 +10,13 @@ use crate::declaration::DeclarationKind;
 use std::alloc::AllocError;
 use wgsl_forms::declare::{Declaration as Form, override_without_value};
 use wgsl_forms::variable::holds;
-use wgsl_names::fault::{Place, Rule};
-use wgsl_names::known::{Known, Part, Typed};
-use wgsl_names::stage::Stage;
-use wgsl_names::structs::behind;
 use wgsl_syntax::address::{AccessMode, AddressSpace};
 use wgsl_typing::count::has_override_count;
 use wgsl_typing::declared::Declared;
+use wgsl_typing::fault::{Place, Rule};
+use wgsl_typing::known::{Known, Part, Typed};
+use wgsl_typing::stage::Stage;
+use wgsl_typing::structs::behind;
 
 /// What stands between `var<` and `>`, with an access mode if that is said; None if it has a fault.
 type Space = Option<(AddressSpace, Option<AccessMode>)>;

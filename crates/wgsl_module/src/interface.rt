@@ -8,9 +8,9 @@ use std::alloc::AllocError;
 use std::collections::BTreeSet;
 use wgsl_core::ty::Type;
 use wgsl_core::ty::form::Form;
-use wgsl_names::fault::Rule;
 use wgsl_source::fault::Cause;
 use wgsl_typing::extension::is_among;
+use wgsl_typing::fault::Rule;
 
 /// The stage of an entry point.
 #[derive(Clone, Copy, PartialEq, Eq)]

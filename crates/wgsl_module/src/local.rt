@@ -6,9 +6,9 @@ ghost use Rattle.wgsl_typing.specs.Stacks.{below_space};
 use crate::checker::Checker;
 use std::alloc::AllocError;
 use wgsl_forms::declare::Declaration;
-use wgsl_names::fault::Rule;
-use wgsl_names::known::Typed;
 use wgsl_syntax::address::AddressSpace;
+use wgsl_typing::fault::Rule;
+use wgsl_typing::known::Typed;
 
 impl<'t> Checker<'t> {
     /// Gives a value its name in the innermost block.

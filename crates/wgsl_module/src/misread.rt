@@ -7,10 +7,10 @@ ghost use Rattle.wgsl_module.specs.Told.{broken, unread};
 use crate::checker::Checker;
 use crate::declaration::{Declaration, DeclarationKind};
 use std::alloc::{AllocError, Global};
-use wgsl_names::fault::{Fault, Place, Rule};
 use wgsl_reader::kind::Kind;
 use wgsl_reader::module::Misread;
 use wgsl_source::text::Text;
+use wgsl_typing::fault::{Fault, Place, Rule};
 
 /// A fault for each declaration that the grammar doesn't read.
 pub fn faults_of_misread(

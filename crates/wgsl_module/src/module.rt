@@ -14,9 +14,6 @@ use crate::told::{in_order, joined};
 use crate::untyped::{are_known, tell_untyped};
 use crate::walk::Link;
 use std::alloc::{AllocError, Global};
-use wgsl_names::fault::{Fault, Place, Rule};
-use wgsl_names::known::{Known, Part};
-use wgsl_names::scope::{Bound, Locals};
 use wgsl_reader::kind::Kind;
 use wgsl_reader::mark::Mark;
 use wgsl_reader::module::{Misread, Module, read_module};
@@ -25,6 +22,9 @@ use wgsl_source::fault::{Cause, ExtensionKind};
 use wgsl_source::text::{Text, tokens};
 use wgsl_typing::expressions::{Expressions, Named};
 use wgsl_typing::extension::is_required;
+use wgsl_typing::fault::{Fault, Place, Rule};
+use wgsl_typing::known::{Known, Part};
+use wgsl_typing::scope::{Bound, Locals};
 
 /// What is found of a module: its expressions, and what is wrong.
 #[derive(Drop)]

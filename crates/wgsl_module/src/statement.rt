@@ -10,16 +10,16 @@ use wgsl_forms::assign::{assign_by, binary_operator, increment};
 use wgsl_forms::declare::discard;
 use wgsl_forms::flow::return_value;
 use wgsl_forms::refusal::Refusal;
-use wgsl_names::fault::{Place, Rule};
-use wgsl_names::known::{Outcome, Part, Typed};
-use wgsl_names::stage::Stage;
-use wgsl_names::structs::behind;
-use wgsl_names::value::Value;
 use wgsl_reader::kind::Kind;
 use wgsl_syntax::operator::AssignmentOperator;
 use wgsl_syntax::overload::Stages;
 use wgsl_typing::constant::wrong_right;
 use wgsl_typing::expression::shown;
+use wgsl_typing::fault::{Place, Rule};
+use wgsl_typing::known::{Outcome, Part, Typed};
+use wgsl_typing::stage::Stage;
+use wgsl_typing::structs::behind;
+use wgsl_typing::value::Value;
 
 impl<'t> Checker<'t> {
     /// `const_assert x;`

@@ -7,10 +7,10 @@ use std::alloc::AllocError;
 use std::collections::BTreeSet;
 use wgsl_core::ty::Type;
 use wgsl_forms::switch::switch_type;
-use wgsl_names::fault::{Place, Rule};
-use wgsl_names::known::Part;
 use wgsl_standard::operand::Operand;
 use wgsl_typing::expression::shown;
+use wgsl_typing::fault::{Place, Rule};
+use wgsl_typing::known::Part;
 
 /// A `switch` so far.
 #[derive(Drop)]

@@ -4,8 +4,8 @@ ghost use Rattle.wgsl_module.specs.Checked.{AreTyped, are_known, first_faulty, o
 ghost use Rattle.wgsl_module.specs.Told.{AreTold, broken};
 
 use std::alloc::{AllocError, Global};
-use wgsl_names::fault::{Fault, Place, Rule};
-use wgsl_names::known::{Known, Outcome, Part};
+use wgsl_typing::fault::{Fault, Place, Rule};
+use wgsl_typing::known::{Known, Outcome, Part};
 
 /// If nothing is told, and it is known what each given name stands for, tells the first expression that is faulty. No known text
 /// has one: with this, a text without faults has none, whatever the rest of the check does.

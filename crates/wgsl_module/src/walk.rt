@@ -2,9 +2,9 @@
 
 use crate::checker::Checker;
 use std::alloc::AllocError;
-use wgsl_names::fault::Place;
 use wgsl_reader::kind::Kind;
 use wgsl_reader::mark::Mark;
+use wgsl_typing::fault::Place;
 
 /// How a declaration leads to another one.
 #[derive(Clone, Copy)]

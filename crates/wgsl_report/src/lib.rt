@@ -1,8 +1,10 @@
-//! The report on a WGSL text: the layouts of its structs, the bindings of its variables, and what is wrong.
+//! The report on a WGSL text: the layouts of its structs, the bindings of its variables, and what is wrong; and the report on a
+//! checked module (`faults.rt`).
 #![tactic(auto)]
 
 pub mod choice;
 pub mod extent;
+pub mod faults;
 pub mod finding;
 mod forms;
 pub mod json;

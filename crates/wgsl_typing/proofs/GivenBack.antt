@@ -1,6 +1,6 @@
 -- What a declaration stands for is taken and given back.
 use Rattle.std.proofs.Common.{◌≡◌, ◌<◌, ◌≤◌, ℕ, zero, suc, List, [], ◌∷◌, Option, None, length, slice_index_or, slice_set, refl, ap, ◌∙◌, arith}
-use Rattle.wgsl_names.specs.declared.known.Known.{Known}
+use Rattle.wgsl_typing.specs.declared.known.Known.{Known}
 use Rattle.wgsl_typing.specs.Names.{known_of, with_known}
 use Rattle.wgsl_typing.specs.declared.expressions.Named.{Named}
 

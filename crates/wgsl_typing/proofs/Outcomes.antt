@@ -3,7 +3,7 @@ use Rattle.std.proofs.Common.{◌≡◌, List, Option, Result, Ok, Err, IfOk, So
 use Rattle.wgsl_typing.proofs.Common.{AllocError, view, Operand, WgslType, WgslCallee, IsCallResolution, IsInferredArray, resolved_view, ResolvedCall, Refusal, Outcome, Part, Typed, Stage, IsHeld, IsHeldFor, answer_of, Unresolved}
 use Rattle.wgsl_core.specs.declared.ty.Type.{«Type»}
 use Rattle.wgsl_forms.specs.declared.form.Referent.TheVariants.{Whole}
-use Rattle.wgsl_names.specs.declared.known.Outcome.TheVariants as outcomes
+use Rattle.wgsl_typing.specs.declared.known.Outcome.TheVariants as outcomes
 use Rattle.wgsl_typing.specs.Counts.{unless_counted}
 use Rattle.wgsl_typing.specs.Outcomes.{HasResult, HasType, IsAnswer, IsFound, IsInferred, IsInferredAs, IsMade, IsOverloaded, IsType, OrFaulty, resolved, stage_of, types_of}
 

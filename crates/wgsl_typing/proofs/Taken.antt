@@ -1,7 +1,7 @@
 -- What is taken from a template list, and what is left of it.
 use Rattle.std.proofs.Common.{◌≡◌, ◌∙◌, ◌≤◌, List, [], ◌∷◌, ◌++◌, Bool, true, false, ap, append_assoc, arith, inl, inr, length, refl, reverse, subst, sym}
 use Rattle.std.proofs.lemmas.List.{append-nil, reverse-append}
-use Rattle.wgsl_names.specs.declared.known.Part.{Part}
+use Rattle.wgsl_typing.specs.declared.known.Part.{Part}
 use Rattle.wgsl_typing.specs.Names.{Context}
 use Rattle.wgsl_typing.specs.Stacks.{IsOperand, Stack, below, with_parts}
 use Rattle.wgsl_typing.specs.Taken.{TakesCount, TakesFrom, TakesIf, expressions_in}

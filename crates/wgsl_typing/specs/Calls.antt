@@ -4,14 +4,14 @@ use Rattle.std.specs.List.{list_all}
 use Rattle.wgsl_core.specs.View.{view}
 use Rattle.wgsl_rules.specs.types.Types.{WgslType}
 use Rattle.wgsl_rules.specs.standard.Evaluation.{may_be_dropped}
-use Rattle.wgsl_names.specs.Faults.{last_of, up_to}
-use Rattle.wgsl_names.specs.Known.{typed_in}
-use Rattle.wgsl_names.specs.declared.fault.Place.{Place}
-use Rattle.wgsl_names.specs.declared.known.Known.{Known}
-use Rattle.wgsl_names.specs.declared.known.Known.TheVariants as knowns
-use Rattle.wgsl_names.specs.declared.known.Outcome.{Outcome}
-use Rattle.wgsl_names.specs.declared.known.Outcome.TheVariants as outcomes
-use Rattle.wgsl_names.specs.declared.known.Part.{Part}
+use Rattle.wgsl_typing.specs.Faults.{last_of, up_to}
+use Rattle.wgsl_typing.specs.Known.{typed_in}
+use Rattle.wgsl_typing.specs.declared.fault.Place.{Place}
+use Rattle.wgsl_typing.specs.declared.known.Known.{Known}
+use Rattle.wgsl_typing.specs.declared.known.Known.TheVariants as knowns
+use Rattle.wgsl_typing.specs.declared.known.Outcome.{Outcome}
+use Rattle.wgsl_typing.specs.declared.known.Outcome.TheVariants as outcomes
+use Rattle.wgsl_typing.specs.declared.known.Part.{Part}
 use Rattle.wgsl_spelling.specs.declared.predeclared.LayerName.TheVariants as layers
 use Rattle.wgsl_spelling.specs.declared.predeclared.PredeclaredType.{PredeclaredType}
 use Rattle.wgsl_spelling.specs.declared.predeclared.PredeclaredType.TheVariants as p
@@ -116,10 +116,14 @@ head (callees.Name count) = last_of count
 head (callees.Listed place listed) = place
 
 -- `f(x, y)`: its arguments are used
+abbrev pub IsPartOfCall : Callee → List Part → Context → ℕ → Part → Type 0
+IsPartOfCall c xs context at x = (x.place ≡ up_to (head c) (last_of at)) × (x.declared ≡ None) × IsCallIf (are_typed xs) context c xs x.outcome
+
+abbrev pub EndsCall : Callee → List Part → List Item → ℕ → Stack → Stack → Type 0
+EndsCall c xs rest at s r = (x : Part) × IsPartOfCall c xs s.context at x × (r ≡ record { items = items.Part x ∷ rest; parts = s.parts ++ xs; context = s.context })
+
 abbrev pub CallsOf : List Item → ℕ → Stack → Stack → Type 0
-CallsOf (items.Call c xs ∷ rest) at s r = (o : Part) × (o.place ≡ up_to (head c) (last_of at)) × (o.declared ≡ None)
-    × IsCallIf (are_typed xs.items) s.context c xs.items o.outcome
-    × (r ≡ record { items = items.Part o ∷ rest; parts = s.parts ++ xs.items; context = s.context })
+CallsOf (items.Call c xs ∷ rest) at s r = EndsCall c xs.items rest at s r
 CallsOf is at s r = r ≡ with_items (below is) s
 
 abbrev pub Calls : ℕ → Stack → Stack → Type 0

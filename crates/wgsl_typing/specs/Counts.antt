@@ -10,11 +10,11 @@ use Rattle.wgsl_constants.specs.declared.integer.Integer.{Integer}
 use Rattle.wgsl_forms.specs.Index.{is_index}
 use Rattle.wgsl_forms.specs.Questions.{asks}
 use Rattle.wgsl_forms.specs.Refusals.{Refusal, error}
-use Rattle.wgsl_names.specs.declared.known.Typed.{Typed}
-use Rattle.wgsl_names.specs.declared.stage.Stage.{Stage}
-use Rattle.wgsl_names.specs.declared.stage.Stage.TheVariants as stages
-use Rattle.wgsl_names.specs.declared.value.Value.{Value}
-use Rattle.wgsl_names.specs.declared.value.Value.TheVariants.{One}
+use Rattle.wgsl_typing.specs.declared.known.Typed.{Typed}
+use Rattle.wgsl_typing.specs.declared.stage.Stage.{Stage}
+use Rattle.wgsl_typing.specs.declared.stage.Stage.TheVariants as stages
+use Rattle.wgsl_typing.specs.declared.value.Value.{Value}
+use Rattle.wgsl_typing.specs.declared.value.Value.TheVariants.{One}
 use Rattle.wgsl_typing.specs.declared.list.TheConstants.{OVERRIDE_COUNT}
 
 -- Counts by overrides

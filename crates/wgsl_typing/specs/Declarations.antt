@@ -13,12 +13,12 @@ use Rattle.wgsl_forms.specs.Variable.{initialized_variable, variable}
 use Rattle.wgsl_forms.specs.declared.declare.Declaration.{Declaration}
 use Rattle.wgsl_forms.specs.declared.declare.Declaration.TheVariants as declarations
 use Rattle.wgsl_forms.specs.declared.form.Referent.TheVariants.{Whole}
-use Rattle.wgsl_names.specs.Known.{operand_where, typed_in}
-use Rattle.wgsl_names.specs.Stages.{is_early}
-use Rattle.wgsl_names.specs.declared.known.Outcome.{Outcome}
-use Rattle.wgsl_names.specs.declared.known.Typed.{Typed}
-use Rattle.wgsl_names.specs.declared.stage.Stage.{Stage}
-use Rattle.wgsl_names.specs.declared.stage.Stage.TheVariants as stages
+use Rattle.wgsl_typing.specs.Known.{operand_where, typed_in}
+use Rattle.wgsl_typing.specs.Stages.{is_early}
+use Rattle.wgsl_typing.specs.declared.known.Outcome.{Outcome}
+use Rattle.wgsl_typing.specs.declared.known.Typed.{Typed}
+use Rattle.wgsl_typing.specs.declared.stage.Stage.{Stage}
+use Rattle.wgsl_typing.specs.declared.stage.Stage.TheVariants as stages
 use Rattle.wgsl_typing.specs.Outcomes.{shown}
 use Rattle.wgsl_typing.specs.declared.declared.Declared.{Declared}
 use Rattle.wgsl_typing.specs.declared.declared.Declared.TheVariants as types

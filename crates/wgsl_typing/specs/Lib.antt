@@ -1,6 +1,9 @@
 pub mod Calls
 pub mod Counts
 pub mod Declarations
+pub mod Faults
+pub mod Indices
+pub mod Known
 pub mod Literals
 pub mod Members
 pub mod Names
@@ -8,8 +11,12 @@ pub mod Operators
 pub mod Outcomes
 pub mod Parameters
 pub mod Predeclared
+pub mod Scopes
+pub mod Short
 pub mod Stacks
+pub mod Stages
 pub mod Steps
+pub mod StructNames
 pub mod Taken
 pub mod Templates
 pub mod Types

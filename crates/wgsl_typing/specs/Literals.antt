@@ -9,12 +9,12 @@ use Rattle.wgsl_constants.specs.declared.constant.Constant.TheVariants as consta
 use Rattle.wgsl_constants.specs.declared.integer.Integer.{Integer}
 use Rattle.wgsl_constants.specs.declared.integer.Integer.TheVariants.{Abstract, I32, U32}
 use Rattle.wgsl_forms.specs.declared.form.Referent.TheVariants.{Whole}
-use Rattle.wgsl_names.specs.Faults.{last_of}
-use Rattle.wgsl_names.specs.declared.known.Outcome.{Outcome}
-use Rattle.wgsl_names.specs.declared.known.Outcome.TheVariants as outcomes
-use Rattle.wgsl_names.specs.declared.stage.Stage.TheVariants.{Const}
-use Rattle.wgsl_names.specs.declared.value.Value.{Value}
-use Rattle.wgsl_names.specs.declared.value.Value.TheVariants.{One}
+use Rattle.wgsl_typing.specs.Faults.{last_of}
+use Rattle.wgsl_typing.specs.declared.known.Outcome.{Outcome}
+use Rattle.wgsl_typing.specs.declared.known.Outcome.TheVariants as outcomes
+use Rattle.wgsl_typing.specs.declared.stage.Stage.TheVariants.{Const}
+use Rattle.wgsl_typing.specs.declared.value.Value.{Value}
+use Rattle.wgsl_typing.specs.declared.value.Value.TheVariants.{One}
 use Rattle.wgsl_reader.specs.declared.kind.Kind.{Kind}
 use Rattle.wgsl_spelling.specs.Names.{or_else}
 use Rattle.wgsl_spelling.specs.Values.{bool_of}

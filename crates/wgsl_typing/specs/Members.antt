@@ -4,16 +4,16 @@ use Rattle.wgsl_core.specs.View.{view}
 use Rattle.wgsl_rules.specs.types.Types.{Members, WgslType, member, no_members, pointer, reference, struct}
 use Rattle.wgsl_forms.specs.Member.{member_answer}
 use Rattle.wgsl_forms.specs.Memory.{behind}
-use Rattle.wgsl_names.specs.Faults.{last_of, up_to}
-use Rattle.wgsl_names.specs.Known.{typed_in}
-use Rattle.wgsl_names.specs.Stages.{is_const}
-use Rattle.wgsl_names.specs.StructNames.{index_of, struct_of}
-use Rattle.wgsl_names.specs.declared.known.Outcome.{Outcome}
-use Rattle.wgsl_names.specs.declared.known.Outcome.TheVariants as outcomes
-use Rattle.wgsl_names.specs.declared.known.Part.{Part}
-use Rattle.wgsl_names.specs.declared.known.Typed.{Typed}
-use Rattle.wgsl_names.specs.declared.structs.Declared.{Declared}
-use Rattle.wgsl_names.specs.declared.structs.Structs.{Structs}
+use Rattle.wgsl_typing.specs.Faults.{last_of, up_to}
+use Rattle.wgsl_typing.specs.Known.{typed_in}
+use Rattle.wgsl_typing.specs.Stages.{is_const}
+use Rattle.wgsl_typing.specs.StructNames.{index_of, struct_of}
+use Rattle.wgsl_typing.specs.declared.known.Outcome.{Outcome}
+use Rattle.wgsl_typing.specs.declared.known.Outcome.TheVariants as outcomes
+use Rattle.wgsl_typing.specs.declared.known.Part.{Part}
+use Rattle.wgsl_typing.specs.declared.known.Typed.{Typed}
+use Rattle.wgsl_typing.specs.declared.structs.Declared.{Declared}
+use Rattle.wgsl_typing.specs.declared.structs.Structs.{Structs}
 use Rattle.wgsl_typing.specs.Names.{word_in}
 use Rattle.wgsl_typing.specs.Outcomes.{IsFormed}
 use Rattle.wgsl_typing.specs.Stacks.{IsOnTop, Puts, Stack, below_operand}

@@ -7,18 +7,18 @@ use Rattle.std.specs.Option.{option_and_then}
 use Rattle.std.specs.Ordering.{nat_cmp}
 use Rattle.wgsl_core.specs.View.{view}
 use Rattle.wgsl_rules.specs.types.Types.{WgslType}
-use Rattle.wgsl_names.specs.Faults.{last_of}
-use Rattle.wgsl_names.specs.Scopes.{named, scope_view}
-use Rattle.wgsl_names.specs.declared.known.Known.{Known}
-use Rattle.wgsl_names.specs.declared.known.Known.TheVariants as knowns
-use Rattle.wgsl_names.specs.declared.known.Outcome.{Outcome}
-use Rattle.wgsl_names.specs.declared.known.Outcome.TheVariants as outcomes
-use Rattle.wgsl_names.specs.declared.known.Part.{Part}
-use Rattle.wgsl_names.specs.declared.known.Typed.{Typed}
-use Rattle.wgsl_names.specs.declared.scope.Local.{Local}
-use Rattle.wgsl_names.specs.declared.scope.Locals.{Locals}
-use Rattle.wgsl_names.specs.declared.structs.Structs.{Structs}
-use Rattle.wgsl_names.specs.declared.value.Value.{Value}
+use Rattle.wgsl_typing.specs.Faults.{last_of}
+use Rattle.wgsl_typing.specs.Scopes.{named, scope_view}
+use Rattle.wgsl_typing.specs.declared.known.Known.{Known}
+use Rattle.wgsl_typing.specs.declared.known.Known.TheVariants as knowns
+use Rattle.wgsl_typing.specs.declared.known.Outcome.{Outcome}
+use Rattle.wgsl_typing.specs.declared.known.Outcome.TheVariants as outcomes
+use Rattle.wgsl_typing.specs.declared.known.Part.{Part}
+use Rattle.wgsl_typing.specs.declared.known.Typed.{Typed}
+use Rattle.wgsl_typing.specs.declared.scope.Local.{Local}
+use Rattle.wgsl_typing.specs.declared.scope.Locals.{Locals}
+use Rattle.wgsl_typing.specs.declared.structs.Structs.{Structs}
+use Rattle.wgsl_typing.specs.declared.value.Value.{Value}
 use Rattle.wgsl_reader.specs.declared.token.Token.{Token}
 use Rattle.wgsl_typing.specs.Outcomes.{HasType}
 use Rattle.wgsl_typing.specs.Predeclared.{type_predeclared}

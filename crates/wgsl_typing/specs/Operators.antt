@@ -1,13 +1,13 @@
 -- What is done where an operator, an element or brackets are read (WGSL, "Expressions").
 use Rattle.std.specs.Prelude.{◌≡◌, ℕ, ◌-◌, List, [], ◌∷◌, Bool, true, false, Option, Some, None}
 use Rattle.wgsl_forms.specs.Index.{index_answer}
-use Rattle.wgsl_names.specs.Faults.{last_of, up_to}
-use Rattle.wgsl_names.specs.Known.{operand, typed_in}
-use Rattle.wgsl_names.specs.Stages.{later}
-use Rattle.wgsl_names.specs.declared.known.Outcome.{Outcome}
-use Rattle.wgsl_names.specs.declared.known.Outcome.TheVariants as outcomes
-use Rattle.wgsl_names.specs.declared.known.Part.{Part}
-use Rattle.wgsl_names.specs.declared.known.Typed.{Typed}
+use Rattle.wgsl_typing.specs.Faults.{last_of, up_to}
+use Rattle.wgsl_typing.specs.Known.{operand, typed_in}
+use Rattle.wgsl_typing.specs.Stages.{later}
+use Rattle.wgsl_typing.specs.declared.known.Outcome.{Outcome}
+use Rattle.wgsl_typing.specs.declared.known.Outcome.TheVariants as outcomes
+use Rattle.wgsl_typing.specs.declared.known.Part.{Part}
+use Rattle.wgsl_typing.specs.declared.known.Typed.{Typed}
 use Rattle.wgsl_reader.specs.declared.kind.Kind.{Kind}
 use Rattle.wgsl_reader.specs.declared.kind.Kind.TheVariants.{AndAnd, OrOr}
 use Rattle.wgsl_spelling.specs.Operators.{binary_of, unary_of}

@@ -18,15 +18,15 @@ use Rattle.wgsl_forms.specs.Memory.{behind}
 use Rattle.wgsl_forms.specs.Refusals.{Refusal}
 use Rattle.wgsl_forms.specs.declared.form.Referent.{Referent}
 use Rattle.wgsl_forms.specs.declared.form.Referent.TheVariants.{Whole, Swizzle}
-use Rattle.wgsl_names.specs.Known.{typed_in}
-use Rattle.wgsl_names.specs.Stages.{is_const, latest}
-use Rattle.wgsl_names.specs.declared.known.Outcome.{Outcome}
-use Rattle.wgsl_names.specs.declared.known.Outcome.TheVariants as outcomes
-use Rattle.wgsl_names.specs.declared.known.Part.{Part}
-use Rattle.wgsl_names.specs.declared.known.Signature.{Signature}
-use Rattle.wgsl_names.specs.declared.known.Typed.{Typed}
-use Rattle.wgsl_names.specs.declared.stage.Stage.{Stage}
-use Rattle.wgsl_names.specs.declared.stage.Stage.TheVariants.{Runtime}
+use Rattle.wgsl_typing.specs.Known.{typed_in}
+use Rattle.wgsl_typing.specs.Stages.{is_const, latest}
+use Rattle.wgsl_typing.specs.declared.known.Outcome.{Outcome}
+use Rattle.wgsl_typing.specs.declared.known.Outcome.TheVariants as outcomes
+use Rattle.wgsl_typing.specs.declared.known.Part.{Part}
+use Rattle.wgsl_typing.specs.declared.known.Signature.{Signature}
+use Rattle.wgsl_typing.specs.declared.known.Typed.{Typed}
+use Rattle.wgsl_typing.specs.declared.stage.Stage.{Stage}
+use Rattle.wgsl_typing.specs.declared.stage.Stage.TheVariants.{Runtime}
 use Rattle.wgsl_typing.specs.Counts.{is_counted_by_override, unless_counted}
 use Rattle.wgsl_typing.specs.declared.ask.Unresolved.{Unresolved}
 

@@ -7,8 +7,8 @@ use Rattle.wgsl_syntax.specs.declared.address.AddressSpace.TheVariants as spaces
 use Rattle.wgsl_syntax.specs.declared.texel.TexelFormat.{TexelFormat}
 use Rattle.wgsl_syntax.specs.declared.texel.TexelFormat.TheVariants.{R64Uint}
 use Rattle.wgsl_constants.specs.Literals.{then}
-use Rattle.wgsl_names.specs.Known.{typed_in}
-use Rattle.wgsl_names.specs.declared.known.Part.{Part}
+use Rattle.wgsl_typing.specs.Known.{typed_in}
+use Rattle.wgsl_typing.specs.declared.known.Part.{Part}
 use Rattle.wgsl_spelling.specs.Names.{access_named, format_named, space_named}
 use Rattle.wgsl_typing.specs.Counts.{IsCountOf}
 use Rattle.wgsl_typing.specs.Names.{Context, meaning_at, word_in}

@@ -17,7 +17,7 @@ use Rattle.wgsl_syntax.specs.declared.texture_name.TextureParameters.{TexturePar
 use Rattle.wgsl_syntax.specs.declared.texture_name.TextureParameters.TheVariants as parameters
 use Rattle.wgsl_constants.specs.Literals.{then}
 use Rattle.wgsl_forms.specs.Variable.{variable}
-use Rattle.wgsl_names.specs.Faults.{last_of, up_to}
+use Rattle.wgsl_typing.specs.Faults.{last_of, up_to}
 use Rattle.wgsl_spelling.specs.declared.predeclared.LayerName.{LayerName}
 use Rattle.wgsl_spelling.specs.declared.predeclared.LayerName.TheVariants as layers
 use Rattle.wgsl_spelling.specs.declared.predeclared.PredeclaredType.{PredeclaredType}

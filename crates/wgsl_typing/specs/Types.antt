@@ -3,7 +3,7 @@ use Rattle.std.specs.Prelude.{◌≡◌, ℕ, List, [], ◌∷◌, ◌++◌, Opt
 use Rattle.wgsl_core.specs.View.{view}
 use Rattle.wgsl_core.specs.declared.ty.Type.{«Type»}
 use Rattle.wgsl_rules.specs.types.Types.{WgslType}
-use Rattle.wgsl_names.specs.declared.known.Part.{Part}
+use Rattle.wgsl_typing.specs.declared.known.Part.{Part}
 use Rattle.wgsl_typing.specs.Names.{Context, type_named}
 use Rattle.wgsl_typing.specs.Stacks.{Stack, below_operand}
 use Rattle.wgsl_typing.specs.declared.item.Item.{Item}

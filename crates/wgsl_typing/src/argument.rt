@@ -3,14 +3,14 @@ ghost use Rattle.std.specs.Prelude.{◌≡◌};
 ghost use Rattle.wgsl_typing.specs.Stacks.{stack};
 
 use crate::expressions::Expressions;
+use crate::fault::Rule;
+use crate::known::Part;
+use crate::structs::behind;
+use crate::value::Value;
 use std::alloc::AllocError;
 use wgsl_constants::vector::Vector;
 use wgsl_core::ty::Type;
 use wgsl_core::ty::form::Form;
-use wgsl_names::fault::Rule;
-use wgsl_names::known::Part;
-use wgsl_names::structs::behind;
-use wgsl_names::value::Value;
 
 impl<'t> Expressions<'t> {
     /// Whether the values of arguments are in the ranges of these types.

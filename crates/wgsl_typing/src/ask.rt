@@ -5,7 +5,7 @@ ghost use Rattle.wgsl_forms.specs.Array.{typed_array};
 ghost use Rattle.wgsl_forms.specs.Lists.{constructed, function, list_fits};
 ghost use Rattle.wgsl_forms.specs.Member.{member_answer};
 ghost use Rattle.wgsl_forms.specs.Views.{given};
-ghost use Rattle.wgsl_names.specs.Stages.{is_const};
+ghost use Rattle.wgsl_typing.specs.Stages.{is_const};
 ghost use Rattle.wgsl_standard.specs.Callees.{a_binary, a_unary, callee_view};
 ghost use Rattle.wgsl_standard.specs.Operands.{operands_view};
 ghost use Rattle.wgsl_standard.specs.Resolved.{IsCallResolution};
@@ -14,6 +14,8 @@ ghost use Rattle.wgsl_typing.specs.Outcomes.{IsAnswer, IsInferredAs, IsMember, I
 
 use crate::count::has_override_count;
 use crate::expression::shown;
+use crate::known::{Part, Typed};
+use crate::structs::behind;
 use std::alloc::{AllocError, Global};
 use wgsl_core::error::Fail;
 use wgsl_core::ty::Type;
@@ -21,8 +23,6 @@ use wgsl_core::ty::form::Form;
 use wgsl_forms::array::{construct_array, construct_array_of};
 use wgsl_forms::lists::{Taker, construct_struct, fit};
 use wgsl_forms::member::type_of_member;
-use wgsl_names::known::{Part, Typed};
-use wgsl_names::structs::behind;
 use wgsl_standard::answer::NoOverload;
 use wgsl_standard::callee::Callee;
 use wgsl_standard::explanation::explain;

@@ -1,24 +1,25 @@
 // Binary operators (WGSL, "Expressions").
 ghost use Rattle.std.specs.Prelude.{◌≡◌, [], ◌∷◌, IfOk, None};
-ghost use Rattle.wgsl_names.specs.Known.{typed_in};
-ghost use Rattle.wgsl_names.specs.Stages.{later};
+ghost use Rattle.wgsl_typing.specs.Known.{typed_in};
+ghost use Rattle.wgsl_typing.specs.Stages.{later};
 ghost use Rattle.wgsl_spelling.specs.Operators.{binary_of};
 ghost use Rattle.wgsl_standard.specs.Callees.{a_binary};
 ghost use Rattle.wgsl_typing.specs.Outcomes.{IsOverloaded, loaded};
 ghost use Rattle.wgsl_typing.specs.Operators.{Binary, IsBinaryOf};
-ghost use Rattle.wgsl_typing.specs.Stacks.{stack};
+ghost use Rattle.wgsl_typing.specs.Stacks.{part_of, stack, with_item, with_parts};
 ghost use Rattle.wgsl_typing.specs.Words.{kind_at};
 
 use crate::ask::resolved_binary;
 use crate::constant::{binary_value, decided, wrong_right};
 use crate::expression::of_call;
 use crate::expressions::Expressions;
+use crate::fault::{Place, Rule};
+use crate::item::Item;
+use crate::known::{Outcome, Part, Typed};
+use crate::stage::Stage;
+use crate::value::Value;
 use std::alloc::AllocError;
 use wgsl_core::ty::Type;
-use wgsl_names::fault::{Place, Rule};
-use wgsl_names::known::{Outcome, Part, Typed};
-use wgsl_names::stage::Stage;
-use wgsl_names::value::Value;
 use wgsl_spelling::operator::binary_of;
 use wgsl_syntax::operator::BinaryOperator;
 
@@ -48,9 +49,23 @@ impl<'t> Expressions<'t> {
         let left = self.take_part()?;
         let outcome = self.outcome_of_binary(count, &left, &right)?;
         let place = left.place.up_to(right.place);
-        self.note(left)?;
-        self.note(right)?;
-        self.put(place, outcome)
+        self.put_of(place, outcome, left, right)
+    }
+
+    /// Puts what is made of two expressions, which are used.
+    pub fn put_of(
+        &mut self,
+        place: Place,
+        outcome: Outcome,
+        first: Part,
+        second: Part,
+    ) -> Result<(), AllocError>
+        ensures { IfOk result (λ u. stack self.new
+            ≡ with_item (Item.Part (part_of place outcome)) (with_parts (first ∷ second ∷ []) (stack self.old))) }
+    {
+        self.put(place, outcome)?;
+        self.note(first)?;
+        self.note(second)
     }
 
     /// What stands behind the right operand of an operator is evaluated again.
@@ -113,15 +128,34 @@ impl<'t> Expressions<'t> {
         let Some(call) = self.taken(found, place)? else {
             return Ok(Outcome::Faulty);
         };
-        let first = call.parameters.first();
-        let a = self.argument_value(left.0, first)?;
-        let b = self.argument_value(right.0, call.parameters.get(1))?;
+        let operands = (left.0, right.0);
+        match self.value_of_binary(operator, count, operands, &call.parameters, stage)? {
+            Some(value) => Ok(of_call(call, stage, value)),
+            None => Ok(Outcome::Faulty),
+        }
+    }
+
+    /// The value of a binary expression whose operands are converted to these types, if it is known: None where that is a fault.
+    fn value_of_binary(
+        &mut self,
+        operator: BinaryOperator,
+        count: usize,
+        operands: (&Part, &Part),
+        parameters: &[Type],
+        stage: Stage,
+    ) -> Result<Option<Option<Value>>, AllocError>
+        ensures stack { stack self.new ≡ stack self.old }
+    {
+        let first = parameters.first();
+        let a = self.argument_value(operands.0, first)?;
+        let b = self.argument_value(operands.1, parameters.get(1))?;
         let (Some(a), Some(b)) = (a, b) else {
-            return Ok(Outcome::Faulty);
+            return Ok(None);
         };
+        let place = Place::last_of(count);
         if let Some(message) = self.wrong_right(operator, first, b, stage) {
             self.tell(Rule::Value, place, message)?;
-            return Ok(Outcome::Faulty);
+            return Ok(None);
         }
         let value = match (a, b) {
             (Some(a), Some(b)) => {
@@ -131,7 +165,7 @@ impl<'t> Expressions<'t> {
             (Some(a), None) => decided(operator, a),
             _ => None,
         };
-        Ok(of_call(call, stage, value))
+        Ok(Some(value))
     }
 
     /// What is wrong with a right operand that is evaluated.

@@ -3,7 +3,7 @@ ghost use Rattle.std.specs.Prelude.{◌≡◌, IfOk, None, Some, option_map, tru
 ghost use Rattle.wgsl_core.specs.View.{view};
 ghost use Rattle.wgsl_standard.specs.Callees.{a_constructor, a_function, callee_view};
 ghost use Rattle.wgsl_typing.specs.Outcomes.{IsCall, IsOfFunction, OrFaulty, stage_of};
-ghost use Rattle.wgsl_typing.specs.Calls.{Argument, ArgumentIf, Calls, IsCallIf, IsCallOf, IsCallOfKnown, IsCallOfPredeclared, Opens, are_typed, head, is_call_on};
+ghost use Rattle.wgsl_typing.specs.Calls.{Argument, ArgumentIf, Calls, EndsCall, IsCallIf, IsCallOf, IsCallOfKnown, IsCallOfPredeclared, IsPartOfCall, Opens, are_typed, head, is_call_on};
 ghost use Rattle.wgsl_typing.specs.Names.{context, known_of, word_in};
 ghost use Rattle.wgsl_typing.specs.Stacks.{stack, with_parts};
 ghost use Rattle.wgsl_typing.specs.Predeclared.{type_called};
@@ -14,14 +14,14 @@ use crate::ask::{misfit, resolved};
 use crate::constant::call_value;
 use crate::expression::of_call;
 use crate::expressions::Expressions;
+use crate::fault::{Place, Rule};
 use crate::item::{Callee as Called, Item, Listed};
+use crate::known::{Known, Outcome, Part, Signature};
 use crate::meant::Wanted;
 use crate::name::{Meaning, predeclared_type, typed};
+use crate::stage::Stage;
 use std::alloc::{AllocError, Global};
 use wgsl_core::ty::Type;
-use wgsl_names::fault::{Place, Rule};
-use wgsl_names::known::{Known, Outcome, Part, Signature};
-use wgsl_names::stage::Stage;
 use wgsl_spelling::predeclared::{LayerName, PredeclaredType};
 use wgsl_standard::callee::{
     Callee, can_be_const_expression, may_be_dropped, needs_subgroups, stages_of,
@@ -120,22 +120,45 @@ impl<'t> Expressions<'t> {
     pub fn put_call(&mut self, count: usize) -> Result<(), AllocError>
         ensures { IfOk result (λ u. Calls count (stack self.old) (stack self.new)) }
     {
-        let (callee, arguments) = match self.items.pop() {
-            Some(Item::Call(callee, arguments)) => (callee, arguments),
-            _ => return Ok(()),
-        };
-        let head = head_of(&callee);
-        let outcome = self.outcome_of_call(
-            &callee,
-            &Call {
-                head,
-                arguments: &arguments,
-            },
-        )?;
+        if !self.is_call_on_top() {
+            self.drop_top();
+            return Ok(());
+        }
+        match self.items.pop() {
+            Some(Item::Call(callee, arguments)) => self.end_call(count, callee, arguments),
+            _ => Ok(()),
+        }
+    }
+
+    /// A call with its arguments.
+    fn end_call(
+        &mut self,
+        count: usize,
+        callee: Called,
+        arguments: Vec<Part>,
+    ) -> Result<(), AllocError>
+        ensures { IfOk result (λ u. EndsCall callee arguments.items (stack self.old).items count (stack self.old) (stack self.new)) }
+    {
+        let part = self.part_of_call(count, &callee, &arguments)?;
+        self.push(Item::Part(part))?;
+        self.note_all(arguments)
+    }
+
+    /// What a call is as an expression.
+    fn part_of_call(
+        &mut self,
+        count: usize,
+        callee: &Called,
+        arguments: &[Part],
+    ) -> Result<Part, AllocError>
+        ensures part { IfOk result (IsPartOfCall callee.now arguments.now (context self.old) count) }
+        ensures stack { stack self.new ≡ stack self.old }
+    {
+        let head = head_of(callee);
+        let outcome = self.outcome_of_call(callee, &Call { head, arguments })?;
         let mut part = Part::of(head.up_to(Place::last_of(count)), outcome);
-        part.may_be_dropped = self.may_be_dropped(&callee);
-        self.note_all(arguments)?;
-        self.push(Item::Part(part))
+        part.may_be_dropped = self.may_be_dropped(callee);
+        Ok(part)
     }
 
     fn outcome_of_call(&mut self, callee: &Called, call: &Call<'_>) -> Result<Outcome, AllocError>

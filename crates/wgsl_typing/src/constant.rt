@@ -1,5 +1,7 @@
 // Values of operators and calls, where they are integers or `bool` (WGSL, "Early Evaluation Expressions").
 
+use crate::stage::Stage;
+use crate::value::Value;
 use wgsl_constants::call::{Arguments, CallError, Function};
 use wgsl_constants::constant::Constant;
 use wgsl_constants::integer::IntegerError;
@@ -7,8 +9,6 @@ use wgsl_constants::operator::negative;
 use wgsl_constants::vector::{Size, Vector};
 use wgsl_core::ty::Type;
 use wgsl_core::ty::form::Form;
-use wgsl_names::stage::Stage;
-use wgsl_names::value::Value;
 use wgsl_reader::kind::Kind;
 use wgsl_spelling::value;
 use wgsl_syntax::operator::BinaryOperator;

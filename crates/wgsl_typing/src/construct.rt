@@ -10,13 +10,13 @@ use crate::ask::{array_of, inferred_of, members_of};
 use crate::call::Call;
 use crate::count::has_override_count;
 use crate::expressions::Expressions;
+use crate::fault::{Place, Rule};
+use crate::known::Outcome;
 use crate::name::typed;
+use crate::stage::Stage;
 use std::alloc::AllocError;
 use wgsl_core::ty::Type;
 use wgsl_core::ty::form::Form;
-use wgsl_names::fault::{Place, Rule};
-use wgsl_names::known::Outcome;
-use wgsl_names::stage::Stage;
 use wgsl_standard::callee::Callee;
 
 impl<'t> Expressions<'t> {

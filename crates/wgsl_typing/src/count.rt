@@ -3,7 +3,7 @@ ghost use Rattle.std.specs.Prelude.{[], ◌≡◌, ◌∷◌, ◌++◌, ◌≤�
 ghost use Rattle.wgsl_constants.specs.Conversions.{number};
 ghost use Rattle.wgsl_core.specs.View.{view};
 ghost use Rattle.wgsl_forms.specs.Index.{is_index};
-ghost use Rattle.wgsl_names.specs.Known.{typed_in};
+ghost use Rattle.wgsl_typing.specs.Known.{typed_in};
 ghost use Rattle.wgsl_rules.specs.types.Types.{array};
 ghost use Rattle.wgsl_typing.specs.Counts.{IsCountOf, const_count, count_of, integer_in, is_counted_by_override};
 ghost use Rattle.wgsl_typing.specs.Names.{context};
@@ -13,20 +13,20 @@ ghost use Rattle.wgsl_typing.specs.Taken.{TakesIf};
 ghost use Rattle.wgsl_typing.specs.Templates.{IsArrayListed, IsLimited, is_element, may_be_counted};
 
 use crate::expressions::Expressions;
+use crate::fault::{Place, Rule};
 use crate::item::Item;
+use crate::known::{Part, Typed};
 use crate::list::OVERRIDE_COUNT;
 use crate::parameter::name_of;
+use crate::stage::Stage;
+use crate::structs::size_and_align;
+use crate::value::Value;
 use std::alloc::{AllocError, Global};
 use wgsl_constants::constant::Constant;
 use wgsl_constants::integer::Integer;
 use wgsl_core::ty::Type;
 use wgsl_core::ty::form::Form;
 use wgsl_forms::variable::variable;
-use wgsl_names::fault::{Place, Rule};
-use wgsl_names::known::{Part, Typed};
-use wgsl_names::stage::Stage;
-use wgsl_names::structs::size_and_align;
-use wgsl_names::value::Value;
 use wgsl_syntax::address::AddressSpace;
 use wgsl_syntax::scalar::Scalar;
 

@@ -10,17 +10,17 @@ ghost use Rattle.wgsl_typing.specs.Types.{DeclaredType};
 use crate::count::has_override_count;
 use crate::expression::shown;
 use crate::expressions::Expressions;
+use crate::fault::{Place, Rule};
 use crate::item::Item;
+use crate::known::{Part, Typed};
+use crate::stage::Stage;
+use crate::structs::behind;
 use std::alloc::AllocError;
 use wgsl_core::ty::Type;
 use wgsl_forms::declare::{Declaration, declare};
 use wgsl_forms::flow::condition;
 use wgsl_forms::refusal::Refusal;
 use wgsl_forms::variable::{initialized_variable, variable};
-use wgsl_names::fault::{Place, Rule};
-use wgsl_names::known::{Part, Typed};
-use wgsl_names::stage::Stage;
-use wgsl_names::structs::behind;
 use wgsl_standard::operand::Operand;
 use wgsl_syntax::address::{AccessMode, AddressSpace};
 
@@ -85,12 +85,11 @@ impl<'t> Expressions<'t> {
         ensures name { result ≡ name_on (stack self.old).items }
         ensures rest { stack self.new ≡ with_items (below (stack self.old).items) (stack self.old) }
     {
-        let Some(top) = self.items.pop() else {
-            return 0;
+        let count = match self.items.last() {
+            Some(Item::Name(count)) => *count,
+            _ => 0,
         };
-        let Item::Name(count) = top else {
-            return 0;
-        };
+        self.drop_top();
         count
     }
 
@@ -114,7 +113,7 @@ impl<'t> Expressions<'t> {
             return None;
         };
         let space = *space;
-        self.items.pop();
+        self.drop_top();
         Some(space)
     }
 

@@ -4,8 +4,8 @@ ghost use Rattle.wgsl_core.specs.View.{view};
 ghost use Rattle.wgsl_core.specs.internal.View.{members_view};
 ghost use Rattle.wgsl_forms.specs.Index.{index_answer};
 ghost use Rattle.wgsl_forms.specs.Member.{member_answer};
-ghost use Rattle.wgsl_names.specs.Known.{operand, typed_in};
-ghost use Rattle.wgsl_names.specs.Stages.{is_const, later};
+ghost use Rattle.wgsl_typing.specs.Known.{operand, typed_in};
+ghost use Rattle.wgsl_typing.specs.Stages.{is_const, later};
 ghost use Rattle.wgsl_typing.specs.Outcomes.{IsAnswer, IsFormed, IsFormedOrFaulty, IsMember};
 ghost use Rattle.wgsl_typing.specs.Members.{IsMemberOf, Member, only_member, type_with_member, with_struct};
 ghost use Rattle.wgsl_typing.specs.Names.{context, word_in};
@@ -14,15 +14,15 @@ ghost use Rattle.wgsl_typing.specs.Stacks.{stack};
 
 use crate::ask::member_of;
 use crate::expressions::Expressions;
+use crate::fault::{Place, Rule};
+use crate::known::{Outcome, Part, Typed};
+use crate::structs::behind;
+use crate::value::Value;
 use std::alloc::{AllocError, Global};
 use wgsl_constants::constant::Constant;
 use wgsl_core::ty::form::Form;
 use wgsl_core::ty::{StructMemberType, StructType, Type};
 use wgsl_forms::index::type_of_index;
-use wgsl_names::fault::{Place, Rule};
-use wgsl_names::known::{Outcome, Part, Typed};
-use wgsl_names::structs::behind;
-use wgsl_names::value::Value;
 
 impl<'t> Expressions<'t> {
     /// `x.name`
@@ -112,9 +112,7 @@ impl<'t> Expressions<'t> {
         let part = self.take_part()?;
         let outcome = self.outcome_of_element(bracket, &part, &index)?;
         let place = part.place.up_to(Place::last_of(count));
-        self.note(part)?;
-        self.note(index)?;
-        self.put(place, outcome)
+        self.put_of(place, outcome, part, index)
     }
 
     /// What an element is whose `[` is the last of that many tokens.

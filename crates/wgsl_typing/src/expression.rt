@@ -2,7 +2,7 @@
 ghost use Rattle.std.specs.Prelude.{◌≡◌, [], ◌∷◌, IfOk, None, is_some, option_map, true};
 ghost use Rattle.wgsl_core.specs.View.{view};
 ghost use Rattle.wgsl_forms.specs.Views.{answer_view, form_view, given};
-ghost use Rattle.wgsl_names.specs.Known.{typed_in};
+ghost use Rattle.wgsl_typing.specs.Known.{typed_in};
 ghost use Rattle.wgsl_spelling.specs.Operators.{unary_of};
 ghost use Rattle.wgsl_standard.specs.Callees.{a_unary};
 ghost use Rattle.wgsl_standard.specs.Resolved.{resolved_view};
@@ -15,17 +15,17 @@ ghost use Rattle.wgsl_typing.specs.Words.{kind_at};
 use crate::ask::{Resolved, Unresolved, resolved_unary};
 use crate::constant::{Computed, decided, unary_value};
 use crate::expressions::Expressions;
+use crate::fault::{Place, Rule};
 use crate::item::Item;
+use crate::known::{Outcome, Part, Typed};
+use crate::stage::Stage;
+use crate::structs::behind;
+use crate::value::Value;
 use std::alloc::AllocError;
 use wgsl_core::ty::Type;
 use wgsl_forms::address::{address_of, indirection};
 use wgsl_forms::form::{Form as FormOf, Referent};
 use wgsl_forms::refusal::Refusal;
-use wgsl_names::fault::{Place, Rule};
-use wgsl_names::known::{Outcome, Part, Typed};
-use wgsl_names::stage::Stage;
-use wgsl_names::structs::behind;
-use wgsl_names::value::Value;
 use wgsl_reader::kind::Kind;
 use wgsl_spelling::operator::{binary_of, unary_of};
 use wgsl_standard::answer::NoOverload;
@@ -81,12 +81,11 @@ impl<'t> Expressions<'t> {
         ensures sign { result ≡ sign_on (stack self.old).items }
         ensures rest { stack self.new ≡ with_items (below (stack self.old).items) (stack self.old) }
     {
-        let Some(top) = self.items.pop() else {
-            return 0;
+        let count = match self.items.last() {
+            Some(Item::Sign(count)) => *count,
+            _ => 0,
         };
-        let Item::Sign(count) = top else {
-            return 0;
-        };
+        self.drop_top();
         count
     }
 

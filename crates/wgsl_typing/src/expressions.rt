@@ -2,23 +2,23 @@
 ghost use Rattle.std.specs.Prelude.{◌≡◌, [], ◌∷◌, IfOk, None, false, is_some, not, option_map, slice_get};
 ghost use Rattle.wgsl_core.specs.View.{view};
 ghost use Rattle.wgsl_forms.specs.Views.{answer_view, form_type_view};
-ghost use Rattle.wgsl_names.specs.Faults.{IsTold, IsToldIf};
+ghost use Rattle.wgsl_typing.specs.Faults.{IsTold, IsToldIf};
 ghost use Rattle.wgsl_typing.specs.Declarations.{answer_of};
-ghost use Rattle.wgsl_typing.specs.Stacks.{stack, with_item, with_parts};
+ghost use Rattle.wgsl_typing.specs.Stacks.{below, stack, with_item, with_items, with_parts};
 ghost use Rattle.wgsl_typing.specs.Words.{kind_at, kind_of_any, word_at};
 
 use crate::extension::Extensions;
+use crate::fault::{Fault, Note, Place, Rule};
 use crate::item::Item;
+use crate::known::{Known, Outcome, Part};
 use crate::meant::GUESSED;
+use crate::scope::Locals;
+use crate::structs::Structs;
 use std::alloc::{AllocError, Global};
 use std::collections::BTreeMap;
 use wgsl_core::ty::Type;
 use wgsl_forms::form::FormType;
 use wgsl_forms::refusal::Refusal;
-use wgsl_names::fault::{Fault, Note, Place, Rule};
-use wgsl_names::known::{Known, Outcome, Part};
-use wgsl_names::scope::Locals;
-use wgsl_names::structs::Structs;
 use wgsl_reader::kind::Kind;
 use wgsl_reader::token::Token;
 use wgsl_spelling::word::word;
@@ -164,6 +164,13 @@ impl<'t> Expressions<'t> {
     {
         self.items.push(item)?;
         Ok(())
+    }
+
+    /// Lets go of the item on top.
+    pub fn drop_top(&mut self)
+        ensures { stack self.new ≡ with_items (below (stack self.old).items) (stack self.old) }
+    {
+        self.items.pop();
     }
 
     /// Notes an expression that is used.

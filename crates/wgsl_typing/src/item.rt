@@ -1,8 +1,8 @@
 // What is read of an expression and isn't yet part of another.
 
+use crate::fault::Place;
+use crate::known::Part;
 use wgsl_core::ty::Type;
-use wgsl_names::fault::Place;
-use wgsl_names::known::Part;
 use wgsl_syntax::address::{AccessMode, AddressSpace};
 
 /// What a name with a template list stands for.

@@ -11,6 +11,7 @@ ghost use Rattle.wgsl_typing.specs.Templates.{IsAround, IsClosed, IsLimited, IsL
 
 use crate::count::may_be_counted;
 use crate::expressions::Expressions;
+use crate::fault::{Place, Rule};
 use crate::item::{Item, Listed};
 use crate::meant::Wanted;
 use crate::name::{Meaning, predeclared_type};
@@ -18,7 +19,6 @@ use std::alloc::AllocError;
 use wgsl_core::ty::Type;
 use wgsl_core::ty::form::Form;
 use wgsl_forms::variable::variable;
-use wgsl_names::fault::{Place, Rule};
 use wgsl_spelling::predeclared::{LayerName, PredeclaredType};
 use wgsl_standard::callee::{Callee, overloads};
 use wgsl_syntax::address::{AccessMode, AddressSpace};
@@ -68,17 +68,13 @@ impl<'t> Expressions<'t> {
         ensures taken { IfOk result (λ item. TakesIf (is_array (called_on (context self.old) (stack self.old).items)) (context self.old) (reverse list.old.items)
             (reverse list.new.items) self.old.parts.items self.new.parts.items) }
     {
-        match self.items.pop() {
-            Some(Item::Name(named)) => {
-                let listed = self.listed(named, list)?;
-                Ok(Item::Listed(Place::last_of(named).up_to(Place::last_of(count)), listed))
-            }
-            Some(other) => {
-                self.items.push(other)?;
-                Ok(Item::Space(self.space_listed(count, list)?))
-            }
-            None => Ok(Item::Space(self.space_listed(count, list)?)),
-        }
+        let Some(Item::Name(named)) = self.items.last() else {
+            return Ok(Item::Space(self.space_listed(count, list)?));
+        };
+        let named = *named;
+        self.drop_top();
+        let listed = self.listed(named, list)?;
+        Ok(Item::Listed(Place::last_of(named).up_to(Place::last_of(count)), listed))
     }
 
     /// Notes the expressions that are left of a list, whose first item stands last.

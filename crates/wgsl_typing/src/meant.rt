@@ -3,9 +3,9 @@ ghost use Rattle.std.specs.Prelude.{◌≡◌};
 ghost use Rattle.wgsl_typing.specs.Stacks.{stack};
 
 use crate::expressions::Expressions;
+use crate::fault::Rule;
 use std::alloc::AllocError;
 use wgsl_core::ty::Type;
-use wgsl_names::fault::Rule;
 use wgsl_reader::kind::Kind;
 use wgsl_spelling::meant::TYPES;
 pub use wgsl_spelling::meant::nearest_of;

@@ -12,13 +12,13 @@ ghost use Rattle.wgsl_typing.specs.Stacks.{IsOnTop, below_operand, stack, with_d
 ghost use Rattle.wgsl_typing.specs.Types.{IsTypeOnTop, below_type, type_listed};
 
 use crate::expressions::Expressions;
+use crate::fault::{Place, Rule};
 use crate::item::{Item, Listed};
+use crate::known::{Known, Outcome, Part, Typed};
 use crate::meant::Wanted;
+use crate::stage::Stage;
 use std::alloc::AllocError;
 use wgsl_core::ty::Type;
-use wgsl_names::fault::{Place, Rule};
-use wgsl_names::known::{Known, Outcome, Part, Typed};
-use wgsl_names::stage::Stage;
 use wgsl_reader::kind::Kind;
 use wgsl_spelling::predeclared::{LayerName, PredeclaredType, predeclared};
 use wgsl_syntax::overload::Stages;

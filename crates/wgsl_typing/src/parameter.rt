@@ -9,12 +9,12 @@ ghost use Rattle.wgsl_typing.specs.Templates.{only_type};
 ghost use Rattle.wgsl_typing.specs.Types.{no_type_on, type_of_item};
 
 use crate::expressions::Expressions;
+use crate::fault::{Place, Rule};
 use crate::item::Item;
+use crate::known::{Outcome, Part};
 use crate::name::Meaning;
 use std::alloc::AllocError;
 use wgsl_core::ty::Type;
-use wgsl_names::fault::{Place, Rule};
-use wgsl_names::known::{Outcome, Part};
 use wgsl_spelling::meant::{ACCESS_MODES, SPACES};
 use wgsl_spelling::name::{access_named, space_named};
 use wgsl_syntax::address::{AccessMode, AddressSpace};
@@ -117,16 +117,17 @@ impl<'t> Expressions<'t> {
         ensures stack { stack self.new ≡ stack self.old }
         ensures kept { IfOk result (λ found. expressions_in (reverse list.new.items) ≡ expressions_in (reverse list.old.items)) }
     {
-        let Some(item) = list.pop() else {
+        let Some(item) = list.last() else {
             return Ok(None);
         };
         if let Item::Name(count) = item {
+            let count = *count;
             if matches!(self.meaning(count), Meaning::Undeclared) {
+                drop_last(list);
                 return Ok(Some(count));
             }
         }
-        self.tell(Rule::Template, place_of(&item), "expected an enumerant")?;
-        list.push(item)?;
+        self.tell(Rule::Template, place_of(item), "expected an enumerant")?;
         Ok(None)
     }
 
@@ -224,4 +225,11 @@ fn place_of(item: &Item) -> Place {
         Item::Name(count) => Place::last_of(*count),
         _ => Place::last_of(0),
     }
+}
+
+/// Lets go of the next item of a list.
+fn drop_last(list: &mut Vec<Item>)
+    ensures { reverse list.new.items ≡ below (reverse list.old.items) }
+{
+    list.pop();
 }

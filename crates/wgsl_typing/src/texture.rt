@@ -8,12 +8,12 @@ ghost use Rattle.wgsl_typing.specs.Taken.{TakesFrom, expressions_in};
 ghost use Rattle.wgsl_typing.specs.Templates.{parameters_listed, sampled_listed, sampled_of, stored_listed, texture_listed};
 
 use crate::expressions::Expressions;
+use crate::fault::Rule;
 use crate::item::Item;
 use crate::name::texture_type;
 use std::alloc::AllocError;
 use wgsl_core::ty::Type;
 use wgsl_core::ty::form::Form;
-use wgsl_names::fault::Rule;
 use wgsl_spelling::meant::TEXEL_FORMATS;
 use wgsl_spelling::name::format_named;
 use wgsl_syntax::scalar::Scalar;

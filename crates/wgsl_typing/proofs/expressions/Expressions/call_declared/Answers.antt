@@ -1,5 +1,5 @@
 use Rattle.std.proofs.Common.{List, None, Option, ap, ◌∙◌}
-use Rattle.wgsl_names.specs.declared.known.Known.{Known}
+use Rattle.wgsl_typing.specs.declared.known.Known.{Known}
 use Rattle.wgsl_typing.specs.Names.{with_known}
 use Rattle.wgsl_typing.specs.Stacks.{Stack, stack, with_declared}
 use Rattle.wgsl_typing.specs.declared.expressions.Named.{Named}

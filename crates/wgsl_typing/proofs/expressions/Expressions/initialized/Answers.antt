@@ -1,7 +1,7 @@
 use Rattle.std.proofs.Common.{option_map, sym, ap, ◌∙◌}
 use Rattle.wgsl_typing.proofs.Common.{view, type_behind, value_of_variable}
 use Rattle.wgsl_forms.specs.Variable.{initialized_variable}
-use Rattle.wgsl_names.specs.declared.stage.Stage.TheVariants.{Runtime}
+use Rattle.wgsl_typing.specs.declared.stage.Stage.TheVariants.{Runtime}
 use Rattle.wgsl_typing.proofs.Outcomes.{held_for}
 use Rattle.wgsl_typing.proofs.expressions.Expressions.initialized.Goals as goal
 
