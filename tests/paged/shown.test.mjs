@@ -6,7 +6,7 @@ import { test } from "node:test";
 import { HINTS, ask, fill, mouse, settle, started, texts } from "./browser.mjs";
 import { assertIs, testTables } from "./tables.mjs";
 
-const { PAGE, TOP } = process.env;
+const { TOP } = process.env;
 const on = started(), { opened } = on;
 
 const color = (selector) => `getComputedStyle(document.querySelector(${JSON.stringify(selector)})).color`;
