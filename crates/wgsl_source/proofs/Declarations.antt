@@ -1,20 +1,23 @@
 -- The declarations that are read, one by one.
 use Rattle.std.proofs.Common.{◌≡◌, ◌≢◌, inl, inr, Option, option_and_then, ℕ, zero, suc, true, false, Some, None, slice_get, List, [], ◌∷◌, ◌++◌, drop, take, map, ap, refl, subst, sym, ◌∙◌, append_assoc, append-nil, take-append-drop, All}
 use Rattle.wgsl_source.proofs.Common.{map-append, All-cons, All-head, All-nil, All-tail, same_Some, Event, AreSameMembers, Grows, inner, members_of, without_offset, Declaration, End, MeasuredType, Member, Scope, Struct, TypeKind, Types, Written, Text}
-use Rattle.wgsl_source.specs.Attributes.{IsSaid}
+use Rattle.wgsl_source.specs.Attributes.{GivesNumber, IsGivenBy, IsSaid, arguments_if, last_said}
 use Rattle.wgsl_source.specs.declared.attribute.Name.TheVariants as name
-use Rattle.wgsl_source.specs.Declarations.{AreSites, BehindAttributes, IsSite, Site, attribute_len, declaration_len, end_at, len_to, list_len, no_attribute, one_attribute, one_more}
+use Rattle.wgsl_source.specs.Declarations.{AreSites, BehindAttributes, IsSite, Site, attribute_len, declaration_len, end_at, len_to, list_len, no_attribute, without_last, one_attribute, one_more}
 use Rattle.wgsl_source.specs.TextDeclarations.{declared_by}
-use Rattle.wgsl_source.specs.WrittenTypes.{Environment, HasType, environment, index_of, meaning_of}
-use Rattle.wgsl_source.proofs.WrittenTypes.{still_type}
-use Rattle.wgsl_source.specs.TextStructs.{AreAllTold, AreMembers, AreMembersBy, AreTold, AreTyped, IsMember, IsStructAt, IsTyped, IsTypeNamed, a_struct, an_alias, kept, left_out, misread_told, no_member, none_told, one_member, other_told}
-use Rattle.wgsl_source.specs.internal.Read.{AreAll, AreListed, AreMeant, AreMeantBy, AreNamed, AreOf, IsDeclaration, IsFrom, IsMeantType, IsMisread, IsOf, IsReadAs, IsReadOfKind, IsTypeBy, Stays, declaration, kept_listed, left_listed, misread, no_declaration, no_other, none_listed, none_meant, one_meant, other_listed}
+use Rattle.wgsl_source.specs.WrittenTypes.{Environment, HasConstant, HasType, environment, index_of, meaning_of}
+use Rattle.wgsl_source.proofs.WrittenTypes.{still_type, still_value_of}
+use Rattle.wgsl_source.specs.TextStructs.{AreAllTold, AreMembers, AreTold, IsMember, IsStructAt, IsTypeNamed, IsValueNamed, a_constant, a_struct, an_alias, an_override, kept, left_out, misread_told, no_member, none_told, one_member, other_told}
+use Rattle.wgsl_source.specs.internal.Read.{AreAll, AreListed, AreMeant, AreMeantBy, AreNamed, AreOf, IsDeclaration, IsFrom, IsMeant, IsMeantType, IsMisread, IsOf, IsReadAs, IsReadOfKind, IsTypeBy, IsValueBy, Stays, declaration, kept_listed, left_listed, misread, no_declaration, no_other, none_listed, none_meant, one_meant, other_listed}
 use Rattle.wgsl_source.specs.declared.declaration.DeclarationKind.{DeclarationKind}
 use Rattle.wgsl_source.specs.declared.declaration.DeclarationKind.TheVariants as kinds
 use Rattle.wgsl_source.specs.declared.measured.TypeKind.TheVariants as kind
 use Rattle.wgsl_source.specs.declared.parts.End.TheVariants as e
 use Rattle.wgsl_source.specs.declared.scope.Meaning.{Meaning}
 use Rattle.wgsl_source.specs.declared.scope.Meaning.TheVariants as meaning
+use Rattle.wgsl_source.specs.declared.value.Value.{Value}
+use Rattle.wgsl_source.specs.declared.value.Value.TheVariants as value
+use Rattle.wgsl_constants.specs.declared.constant.Constant.TheVariants as constant
 
 -- one attribute more stands in front
 pub behind_one_more : (whole events rest : List Event) → attribute_len events ≢ 0 → rest ≡ drop (attribute_len events) events
@@ -34,63 +37,67 @@ rest_of : List Member → List Member
 rest_of [] = []
 rest_of (m ∷ ms) = ms
 
-placed_member : (t : Text) (events : List Event) (m n : Member) → without_offset m ≡ without_offset n → IsMember t events n → IsMember t events m
-placed_member t events m n same h = record {
+module _ (t : Text) (env : Environment) where
+  placed_member : (events : List Event) (m n : Member) → without_offset m ≡ without_offset n → IsMember t env events n → IsMember t env events m
+  placed_member events m n same h = record {
+    rest = h.rest;
+    behind = h.behind;
+    named = record { name = ap (λ (k : Member). k.name.now) same ∙ h.named.name; place = ap (λ (k : Member). k.place) same ∙ h.named.place };
+    attributes = h.attributes;
+    there = h.there;
+    size = subst (λ (k : Member). IsSaid (GivesNumber t env.named) name.Size h.attributes k.size_attribute) (sym same) h.size;
+    align = subst (λ (k : Member). IsSaid (GivesNumber t env.named) name.Align h.attributes k.align_attribute) (sym same) h.align;
+    written = subst (λ (k : Member). HasType t env (inner h.rest) k.ty) (sym same) h.written;
+  }
+
+  -- the members at their offsets
+  pub placed_declared : (ms ns : List Member) (events : List Event) → AreSameMembers ms ns → AreMembers t env events ns → AreMembers t env events ms
+  unfolding head_or rest_of
+  placed_declared [] [] events same h = h
+  placed_declared [] (n ∷ ns) events same h = absurd (let no : [] ≡ without_offset n ∷ map without_offset ns = same in cc)
+  placed_declared (m ∷ ms) [] events same h = absurd (let no : without_offset m ∷ map without_offset ms ≡ [] = same in cc)
+  placed_declared (m ∷ ms) (n ∷ ns) events same (one_member some is rest) = one_member some (placed_member (take (len_to e.Member events) events) m n (ap (head_or m) same) is)
+      (placed_declared ms ns (drop (len_to e.Member events) events) (ap rest_of same) rest)
+
+  module _ (whole events : List Event) (old : List Written) (back : (more : List Member) → AreMembers t env events more → AreMembers t env whole (members_of old ++ more)) where
+    -- one member more is read
+    pub one_more_declared : (front rest : List Event) (new : List Written) (w : Written) → len_to e.Member events ≢ 0 → front ≡ take (len_to e.Member events) events
+        → rest ≡ drop (len_to e.Member events) events → IsMember t env front w.member → new ≡ old ++ w ∷ [] → (more : List Member) → AreMembers t env rest more
+        → AreMembers t env whole (members_of new ++ more)
+    one_more_declared front rest new w some cut left is added more h =
+        subst (λ ms. AreMembers t env whole ms) (sym (more_members old new w more added))
+        (back (w.member ∷ more) (one_member some (subst (λ es. IsMember t env es w.member) cut is) (subst (λ es. AreMembers t env es more) left h)))
+
+    -- none is left
+    pub all_are_declared : len_to e.Member events ≡ 0 → AreMembers t env whole (members_of old)
+    all_are_declared none = subst (λ ms. AreMembers t env whole ms) (append-nil (members_of old)) (back [] (no_member none))
+
+-- members stay what they are
+
+still_number : (t : Text) (a b : Scope) (arguments : Option (List Event)) (n : Option ℕ) → Stays a b → IsGivenBy (GivesNumber t (meaning_of a)) arguments n
+    → IsGivenBy (GivesNumber t (meaning_of b)) arguments n
+still_number t a b (Some argument) (Some n) s h = (h.0, still_value_of t a b (without_last argument) (value.Known (constant.Integer h.0)) s h.1, h.2)
+still_number t a b (Some argument) None s h = absurd h
+still_number t a b None (Some n) s h = absurd h
+still_number t a b None None s h = h
+
+pub still_member : (t : Text) (a b : Scope) (x y : Types) (events : List Event) (m : Member) → Stays a b → Grows x y → IsMember t (environment a x) events m → IsMember t (environment b y) events m
+still_member t a b x y events m s g h = record {
   rest = h.rest;
   behind = h.behind;
+  named = h.named;
   attributes = h.attributes;
   there = h.there;
-  size = subst (λ (k : Member). IsSaid name.Size h.attributes k.size_attribute) (sym same) h.size;
-  align = subst (λ (k : Member). IsSaid name.Align h.attributes k.align_attribute) (sym same) h.align;
-  named = record { name = ap (λ (k : Member). k.name.now) same ∙ h.named.name; place = ap (λ (k : Member). k.place) same ∙ h.named.place };
+  size = still_number t a b (last_said (arguments_if name.Size) h.attributes) m.size_attribute s h.size;
+  align = still_number t a b (last_said (arguments_if name.Align) h.attributes) m.align_attribute s h.align;
+  written = still_type t a b x y (inner h.rest) m.ty s g h.written;
 }
 
-placed_typed : (t : Text) (env : Environment) (events : List Event) (m n : Member) → without_offset m ≡ without_offset n → IsTyped t env events n → IsTyped t env events m
-placed_typed t env events m n same h = record {
-  rest = h.rest;
-  behind = h.behind;
-  written = subst (λ (ty : MeasuredType). HasType t env (inner h.rest) ty) (sym (ap (λ (k : Member). k.ty) same)) h.written;
-}
-
--- the members at their offsets
-all_placed : (Is : List Event → Member → Type 0) → ((events : List Event) (m n : Member) → without_offset m ≡ without_offset n → Is events n → Is events m) → (ms ns : List Member) (events : List Event)
-    → AreSameMembers ms ns → AreMembersBy Is events ns → AreMembersBy Is events ms
-unfolding head_or rest_of
-all_placed Is one [] [] events same h = h
-all_placed Is one [] (n ∷ ns) events same h = absurd (let no : [] ≡ without_offset n ∷ map without_offset ns = same in cc)
-all_placed Is one (m ∷ ms) [] events same h = absurd (let no : without_offset m ∷ map without_offset ms ≡ [] = same in cc)
-all_placed Is one (m ∷ ms) (n ∷ ns) events same (one_member some is rest) =
-    one_member some (one (take (len_to e.Member events) events) m n (ap (head_or m) same) is) (all_placed Is one ms ns (drop (len_to e.Member events) events) (ap rest_of same) rest)
-
-pub placed_declared : (t : Text) (ms ns : List Member) (events : List Event) → AreSameMembers ms ns → AreMembers t events ns → AreMembers t events ms
-placed_declared t ms ns events same h = all_placed (IsMember t) (placed_member t) ms ns events same h
-
-pub all_placed_typed : (t : Text) (env : Environment) (ms ns : List Member) (events : List Event) → AreSameMembers ms ns → AreTyped t env events ns → AreTyped t env events ms
-all_placed_typed t env ms ns events same h = all_placed (IsTyped t env) (placed_typed t env) ms ns events same h
-
--- types stay what they are
-pub still_typed : (t : Text) (a b : Scope) (x y : Types) (events : List Event) (m : Member) → Stays a b → Grows x y → IsTyped t (environment a x) events m → IsTyped t (environment b y) events m
-still_typed t a b x y events m s g h = record { rest = h.rest; behind = h.behind; written = still_type t a b x y (inner h.rest) m.ty s g h.written }
-
-pub all_still_typed : (t : Text) (a b : Scope) (x y : Types) {events : List Event} {ms : List Member} → Stays a b → Grows x y → AreTyped t (environment a x) events ms
-    → AreTyped t (environment b y) events ms
-all_still_typed t a b x y s g (no_member none) = no_member none
-all_still_typed t a b x y s g (one_member {events} {member} some is rest) =
-    one_member some (still_typed t a b x y (take (len_to e.Member events) events) member s g is) (all_still_typed t a b x y s g rest)
-
-module _ (Is : List Event → Member → Type 0) (whole events : List Event) (old : List Written)
-    (back : (more : List Member) → AreMembersBy Is events more → AreMembersBy Is whole (members_of old ++ more)) where
-  -- one member more is read
-  pub one_more_declared : (front rest : List Event) (new : List Written) (w : Written) → len_to e.Member events ≢ 0 → front ≡ take (len_to e.Member events) events
-      → rest ≡ drop (len_to e.Member events) events → Is front w.member → new ≡ old ++ w ∷ [] → (more : List Member) → AreMembersBy Is rest more
-      → AreMembersBy Is whole (members_of new ++ more)
-  one_more_declared front rest new w some cut left is added more h =
-      subst (λ ms. AreMembersBy Is whole ms) (sym (more_members old new w more added))
-      (back (w.member ∷ more) (one_member some (subst (λ es. Is es w.member) cut is) (subst (λ es. AreMembersBy Is es more) left h)))
-
-  -- none is left
-  pub all_are_declared : len_to e.Member events ≡ 0 → AreMembersBy Is whole (members_of old)
-  all_are_declared none = subst (λ ms. AreMembersBy Is whole ms) (append-nil (members_of old)) (back [] (no_member none))
+pub still_members : (t : Text) (a b : Scope) (x y : Types) {events : List Event} {ms : List Member} → Stays a b → Grows x y → AreMembers t (environment a x) events ms
+    → AreMembers t (environment b y) events ms
+still_members t a b x y s g (no_member none) = no_member none
+still_members t a b x y s g (one_member {events} {member} some is rest) =
+    one_member some (still_member t a b x y (take (len_to e.Member events) events) member s g is) (still_members t a b x y s g rest)
 
 -- the next declaration begins behind its attributes and its list
 
@@ -185,38 +192,49 @@ meant_at i d m none_meant at is = absurd (let no : None ≡ Some d = at in cc)
 meant_at {Is} zero d m (one_meant {d = x} {m = n} h rest) at is = subst (λ (y : Declaration). Is y m) (same_Some x d at) (subst (λ (y : Meaning). Is x y) (same_Some n m is) h)
 meant_at (suc i) d m (one_meant h rest) at is = meant_at i d m rest at is
 
-of_struct : (t : Text) (ss : List Struct) (d : Declaration) (k : TypeKind) → IsReadOfKind t ss d k → (index : ℕ) × (k ≡ kind.Struct index) × IsReadAs t ss d index
-of_struct t ss d (kind.Struct index) h = (index, refl, h)
-of_struct t ss d k h = absurd h
+of_struct : (t : Text) (env : Environment) (ss : List Struct) (d : Declaration) (k : TypeKind) → IsReadOfKind t env ss d k → (index : ℕ) × (k ≡ kind.Struct index) × IsReadAs t env ss d index
+of_struct t env ss d (kind.Struct index) h = (index, refl, h)
+of_struct t env ss d k h = absurd h
 
-pub type_named : (t : Text) (env : Environment) (ss : List Struct) (ds : List Declaration) (sites : List Site) (s : Scope) → AreOf t sites ds → AreMeant t env ss ds s.meanings.items → AreNamed ds s
-    → (name : List ℕ) (ty : MeasuredType) → meaning_of s name ≡ Some (meaning.«Type» ty) → IsTypeNamed t env ss sites name ty
-type_named t env ss ds sites s are meant names name ty is = by (index_of s name) refl is
-  where
-    sort : (d : Declaration) → d.name.now ≡ name → IsMeantType t env ss d ty → (k : ℕ) (site : Site) → slice_get sites k ≡ Some site → IsOf t site d → IsTypeBy t env d ty
-        → IsTypeNamed t env ss sites name ty
-    sort d called h k site there of (inl struct) =
-        let read = of_struct t ss d ty.kind (h.struct struct) in
-        a_struct read.0 read.2.struct read.1 read.2.there (read.2.from.name ∙ called)
-    sort d called h k site there of (inr alias) =
-        an_alias k site there (of.kind ∙ ap Some alias.0) (sym called ∙ of.named.name) (subst (λ es. HasType t env es ty) of.rest alias.1)
+module _ (t : Text) (env : Environment) (ss : List Struct) (ds : List Declaration) (sites : List Site) (s : Scope) (are : AreOf t sites ds) (meant : AreMeant t env ss ds s.meanings.items)
+    (names : AreNamed ds s) where
+  -- the declaration with a name that has a meaning
+  declaration_named : (name : List ℕ) (m : Meaning) → meaning_of s name ≡ Some m → (i : ℕ) × (d : Declaration) × (slice_get ds i ≡ Some d) × (d.name.now ≡ name) × IsMeant t env ss d m
+  declaration_named name m is = by (index_of s name) refl is
+    where
+      by : (o : Option ℕ) → index_of s name ≡ o → option_and_then (slice_get s.meanings.items) o ≡ Some m
+          → (i : ℕ) × (d : Declaration) × (slice_get ds i ≡ Some d) × (d.name.now ≡ name) × IsMeant t env ss d m
+      by None at is = absurd (let no : None ≡ Some m = is in cc)
+      by (Some i) at is = let found = names name i at in (i, found.0, found.1, found.2, meant_at i found.0 m meant found.1 is)
 
-    by : (o : Option ℕ) → index_of s name ≡ o → option_and_then (slice_get s.meanings.items) o ≡ Some (meaning.«Type» ty) → IsTypeNamed t env ss sites name ty
-    by None at is = absurd (let no : None ≡ Some (meaning.«Type» ty) = is in cc)
-    by (Some i) at is =
-        let found = names name i at in
-        let h : IsMeantType t env ss found.0 ty = meant_at i found.0 (meaning.«Type» ty) meant found.1 is in
-        let of = site_of i found.0 are found.1 h.readable in
-        sort found.0 found.2 h of.0 of.1 of.2 of.3 h.sort
+  pub type_named : (name : List ℕ) (ty : MeasuredType) → meaning_of s name ≡ Some (meaning.«Type» ty) → IsTypeNamed t env ss sites name ty
+  type_named name ty is = let d = declaration_named name (meaning.«Type» ty) is in let of = site_of d.0 d.1 are d.2 d.4.readable in sort d.1 d.3 d.4 of.0 of.1 of.2 of.3 d.4.sort
+    where
+      sort : (d : Declaration) → d.name.now ≡ name → IsMeantType t env ss d ty → (k : ℕ) (site : Site) → slice_get sites k ≡ Some site → IsOf t site d → IsTypeBy t env d ty
+          → IsTypeNamed t env ss sites name ty
+      sort d called h k site there of (inl struct) =
+          let read = of_struct t env ss d ty.kind (h.struct struct) in
+          a_struct read.0 read.2.struct read.1 read.2.there (read.2.from.name ∙ called)
+      sort d called h k site there of (inr alias) =
+          an_alias k site there (of.kind ∙ ap Some alias.0) (sym called ∙ of.named.name) (subst (λ es. HasType t env es ty) of.rest alias.1)
+
+  pub value_named : (name : List ℕ) (v : Value) → meaning_of s name ≡ Some (meaning.Value v) → IsValueNamed t env sites name v
+  value_named name v is = let d = declaration_named name (meaning.Value v) is in let of = site_of d.0 d.1 are d.2 d.4.0 in sort d.1 d.3 of.0 of.1 of.2 of.3 d.4.1
+    where
+      sort : (d : Declaration) → d.name.now ≡ name → (k : ℕ) (site : Site) → slice_get sites k ≡ Some site → IsOf t site d → IsValueBy t env d v → IsValueNamed t env sites name v
+      sort d called k site there of (inl override) =
+          subst (λ v. IsValueNamed t env sites name v) (sym override.1) (an_override k site there (of.kind ∙ ap Some override.0) (sym called ∙ of.named.name))
+      sort d called k site there of (inr known) =
+          a_constant k site there (of.kind ∙ ap Some known.0) (sym called ∙ of.named.name) (subst (λ es. HasConstant t env es v) of.rest known.1)
 
 -- the structs of the declarations are those of the text
 
-module _ (t : Text) (structs : List Struct) where
-  is_struct_at : (site : Site) (d : Declaration) (s : Struct) → IsOf t site d → d.kind ≡ kinds.Struct → IsFrom t d s → IsStructAt t site.first s
+module _ (t : Text) (env : Environment) (structs : List Struct) where
+  is_struct_at : (site : Site) (d : Declaration) (s : Struct) → IsOf t site d → d.kind ≡ kinds.Struct → IsFrom t env d s → IsStructAt t env site.first s
   is_struct_at site d s of struct from = record {
     keyword = ends_struct (end_at t site.first) d.kind of.kind struct;
     named = record { name = from.name ∙ of.named.name; place = from.place ∙ of.named.place };
-    members = subst (λ es. AreMembers t es s.members.items) of.rest from.members;
+    members = subst (λ es. AreMembers t env es s.members.items) of.rest from.members;
   }
 
   by_kind : (site : Site) (d : Declaration) → IsOf t site d → d.kind ≢ kinds.Struct → end_at t site.first ≢ e.Struct
@@ -225,8 +243,8 @@ module _ (t : Text) (structs : List Struct) where
   by_none : (site : Site) → declared_by (end_at t site.first) ≡ None → end_at t site.first ≢ e.Struct
   by_none site none is = let no : Some kinds.Struct ≡ None = sym (ap declared_by is) ∙ none in cc
 
-  told : {sites : List Site} {ds : List Declaration} {indices : List ℕ} {names : List (List ℕ)} → AreOf t sites ds → AreListed t structs ds indices names
-      → AreTold t structs sites indices names
+  told : {sites : List Site} {ds : List Declaration} {indices : List ℕ} {names : List (List ℕ)} → AreOf t sites ds → AreListed t env structs ds indices names
+      → AreTold t env structs sites indices names
   told no_other none_listed = none_told
   told (no_declaration {site} none rest) h = other_told (by_none site none) (told rest h)
   told (declaration {site} {sites} {d} of rest) (other_listed isnt h) = other_told (by_kind site d of isnt) (told rest h)
@@ -236,6 +254,6 @@ module _ (t : Text) (structs : List Struct) where
   told (misread {sites} {d} isnt rest) (kept_listed is read h) = absurd (never_read t d isnt read.readable)
   told (misread isnt rest) (left_listed is h) = misread_told isnt.count isnt.name (told rest h)
 
-  pub all_told : (whole : List Event) (ds : List Declaration) (indices : List ℕ) (names : List (List ℕ)) → AreAll t whole ds → AreListed t structs ds indices names
-      → AreAllTold t whole structs indices names
+  pub all_told : (whole : List Event) (ds : List Declaration) (indices : List ℕ) (names : List (List ℕ)) → AreAll t whole ds → AreListed t env structs ds indices names
+      → AreAllTold t env whole structs indices names
   all_told whole ds indices names are h = record { sites = are.sites; there = are.there; told = told are.are h }

@@ -6,7 +6,9 @@ use Rattle.wgsl_reader.specs.declared.mark.Mark.TheVariants as m
 use Rattle.wgsl_reader.specs.declared.token.Token.{Token}
 use Rattle.wgsl_syntax.specs.declared.address.AccessMode.{AccessMode}
 use Rattle.wgsl_syntax.specs.declared.address.AddressSpace.{AddressSpace}
-use Rattle.wgsl_source.specs.WrittenTypes.{Environment, IsListedBy, Step, Steps, item}
+use Rattle.wgsl_source.specs.TemplateLists.{IsListedAs}
+use Rattle.wgsl_source.specs.WrittenTypes.{BecomesValue, Environment, IsBinary, IsElementOf, IsMemberOf, IsSettled, IsUnary, IsValueCalled, Step, Steps, item}
+use Rattle.wgsl_source.specs.declared.value.Value.{Value}
 use Rattle.wgsl_source.specs.internal.Items.{HasAccess, NamesSpace, item_names, with_content}
 use Rattle.wgsl_source.specs.declared.item.Content.{Content}
 use Rattle.wgsl_source.specs.declared.item.Content.TheVariants as content
@@ -85,21 +87,36 @@ module _ (t : Text) where
 
   -- what steps do to names
 
-  listed_no_name : (e : Environment) (name : List ℕ) (items : List Item) (c : Content) → IsListedBy t e name items c → is_name c ≡ false
-  listed_no_name e name items content.Name h = absurd h
+  listed_no_name : (e : Environment) (name : List ℕ) (items : List Item) (c : Content) → IsListedAs t e name items c → is_name c ≡ false
+  listed_no_name e name [] content.Name h = absurd h
+  listed_no_name e name (i ∷ items) content.Name h = absurd h
   listed_no_name e name items other h = refl
+
+  called_no_name : (e : Environment) (name : Item) (items : List Item) (c : Content) → IsValueCalled t e.named name items c → is_name c ≡ false
+  called_no_name e name items content.Name h = absurd h
+  called_no_name e name items other h = refl
+
+  value_no_name : (Is : List Item → Value → Type 0) (items new : List Item) → BecomesValue Is items new → item_names new ≡ None
+  value_no_name Is items new h = ap item_names h.replaced ∙ other_pushed h.front (item h.token (content.Value h.value)) refl
 
   step_names : (e : Environment) (mark : Mark) (token : Token) (items new : List Item) → Step t e mark token items new → item_names new ≡ behind_event mark token (item_names items)
   step_names e m.Name token items new h = ap item_names h ∙ name_pushed items (item token content.Name) refl
   step_names e m.Value token items new h = ap item_names h
   step_names e m.Literal token items new h = ap item_names h.2 ∙ other_pushed items (item token (content.Value h.0)) refl
   step_names e m.Template token items new h =
-      ap item_names h.replaced ∙ other_pushed h.front (item h.name.token h.content) (listed_no_name e (word t.text.now h.name.token) h.listed h.content h.is)
+      ap item_names h.replaced ∙ other_pushed h.front (item h.name.token h.content) (listed_no_name e (word t.text.now h.name.token) h.listed h.content h.is.1)
+  step_names e m.Call token items new h = ap item_names h.replaced ∙ other_pushed h.front (item h.name.token h.content) (called_no_name e h.name h.listed h.content h.is)
   step_names e m.OpenTemplate token items new h = ap item_names h ∙ other_pushed items (item token (content.Sign token.kind)) refl
   step_names e m.Operator token items new h = ap item_names h ∙ other_pushed items (item token (content.Sign token.kind)) refl
   step_names e m.Open token items new h = ap item_names h ∙ other_pushed items (item token (content.Sign token.kind)) refl
   step_names e m.OpenElement token items new h = ap item_names h ∙ other_pushed items (item token (content.Sign token.kind)) refl
-  step_names e other token items new h = ap item_names h.replaced ∙ other_pushed h.front (item h.token (content.Value h.value)) refl
+  step_names e m.Argument token items new h = value_no_name (IsSettled t e.named) items new h
+  step_names e m.Brackets token items new h = value_no_name (IsSettled t e.named) items new h
+  step_names e m.Unary token items new h = value_no_name (IsUnary t e.named) items new h
+  step_names e m.Binary token items new h = value_no_name (IsBinary t e.named) items new h
+  step_names e m.MemberOf token items new h = value_no_name (IsMemberOf t e.named token) items new h
+  step_names e m.Element token items new h = value_no_name (IsElementOf t e.named) items new h
+  step_names e other token items new h = absurd h
 
   all_behind : (e : Environment) (events : List Event) (items new : List Item) → Steps t e events items new → item_names new ≡ behind_events t events (item_names items)
   all_behind e [] items new h = ap item_names h

@@ -1,4 +1,5 @@
 pub mod Attributes
+pub mod Calls
 pub mod Common
 pub mod Declarations
 pub mod Items

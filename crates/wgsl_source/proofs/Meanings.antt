@@ -1,35 +1,48 @@
 -- What declarations mean while they are read, and how they are listed.
-use Rattle.std.proofs.Common.{◌≡◌, ◌≢◌, ℕ, zero, suc, false, List, [], ◌∷◌, ◌++◌, ◌⊎◌, inl, inr, length, replicate, set, Some, map, ap, refl, subst, sym, ◌∙◌, append_assoc, slice_get, append-nil}
-use Rattle.wgsl_source.proofs.Common.{same_Some, Grows, IsKept, Keeps, SameStructs, Declaration, MeasuredType, TypeKind, Reader, Scope, Struct, Text, Types}
-use Rattle.wgsl_source.specs.internal.Read.{AreAllMeant, AreListed, AreMeant, AreMeantBy, IsMeant, IsMeantAt, IsMeantType, IsNoType, IsOfSort, IsReadAs, IsReadOfKind, IsTypeBy, Lists, Means, Stays, kept_listed, left_listed, names_of, none_listed, none_meant, one_meant, other_listed}
+use Rattle.std.proofs.Common.{◌≡◌, ◌≢◌, ℕ, zero, suc, false, List, [], ◌∷◌, ◌++◌, ◌⊎◌, inl, inr, length, replicate, set, IfOk, Result, Ok, Err, Option, Some, map, ap, refl, subst, sym, ◌∙◌, append_assoc, slice_get, append-nil}
+use Rattle.wgsl_source.proofs.Common.{same_Some, Event, Grows, IsKept, Keeps, SameStructs, Declaration, MeasuredType, TypeKind, Reader, Scope, Struct, Text, Types}
+use Rattle.wgsl_source.specs.Declarations.{declared_type, initializer}
+use Rattle.wgsl_source.specs.internal.Read.{AreAllMeant, AreListed, AreMeant, AreMeantBy, IsConstantOf, IsMeant, IsMeantAt, IsMeantType, IsNothing, IsOfSort, IsReadAs, IsReadOfKind, IsTypeBy, IsValueBy, Lists, Means, Stays, kept_listed, left_listed, names_of, none_listed, none_meant, one_meant, other_listed}
 use Rattle.wgsl_source.specs.declared.declaration.DeclarationKind.TheVariants as kinds
 use Rattle.wgsl_source.specs.declared.listed.Listed.{Listed}
 use Rattle.wgsl_source.specs.declared.measured.TypeKind.TheVariants as kind
 use Rattle.wgsl_source.specs.declared.scope.Meaning.{Meaning}
 use Rattle.wgsl_source.specs.declared.scope.Meaning.TheVariants as meaning
-use Rattle.wgsl_source.proofs.Declarations.{meant_at}
+use Rattle.wgsl_source.specs.declared.value.Value.{Value}
+use Rattle.wgsl_source.proofs.Declarations.{meant_at, still_members}
 use Rattle.wgsl_source.proofs.Members.{still_at}
 use Rattle.wgsl_source.proofs.Structs.{Knows}
-use Rattle.wgsl_source.proofs.WrittenTypes.{stays_same, still_type}
-use Rattle.wgsl_source.specs.WrittenTypes.{Environment, HasType, environment}
+use Rattle.wgsl_source.proofs.WrittenTypes.{stays_same, still_constant, still_type}
+use Rattle.wgsl_source.specs.WrittenTypes.{Environment, HasInitial, HasType, HasTypeIf, environment}
 
 -- more structs are read
 
-still_of_kind : (t : Text) (ss more : List Struct) (d : Declaration) (k : TypeKind) → IsReadOfKind t ss d k → IsReadOfKind t (ss ++ more) d k
-still_of_kind t ss more d (kind.Struct index) h = record { readable = h.readable; struct = h.struct; there = still_at ss more index h.struct h.there; from = h.from }
-still_of_kind t ss more d k h = absurd h
+still_of_kind : (t : Text) (a b : Scope) (x y : Types) (ss more : List Struct) (d : Declaration) (k : TypeKind) → Stays a b → Grows x y → IsReadOfKind t (environment a x) ss d k
+    → IsReadOfKind t (environment b y) (ss ++ more) d k
+still_of_kind t a b x y ss more d (kind.Struct index) s g h = record {
+  readable = h.readable;
+  struct = h.struct;
+  there = still_at ss more index h.struct h.there;
+  from = record { name = h.from.name; place = h.from.place; members = still_members t a b x y s g h.from.members };
+}
+still_of_kind t a b x y ss more d k s g h = absurd h
 
 still_by : (t : Text) (a b : Scope) (x y : Types) (d : Declaration) (ty : MeasuredType) → Stays a b → Grows x y → IsTypeBy t (environment a x) d ty → IsTypeBy t (environment b y) d ty
 still_by t a b x y d ty s g (inl struct) = inl struct
 still_by t a b x y d ty s g (inr alias) = inr (alias.0, still_type t a b x y d.rest.now ty s g alias.1)
+
+still_value_by : (t : Text) (a b : Scope) (x y : Types) (d : Declaration) (v : Value) → Stays a b → Grows x y → IsValueBy t (environment a x) d v → IsValueBy t (environment b y) d v
+still_value_by t a b x y d v s g (inl override) = inl override
+still_value_by t a b x y d v s g (inr constant) = inr (constant.0, still_constant t a b x y d.rest.now v s g constant.1)
 
 module _ (t : Text) (a b : Scope) (x y : Types) (ss more : List Struct) (s : Stays a b) (g : Grows x y) where
   still_meant : (d : Declaration) (m : Meaning) → IsMeant t (environment a x) ss d m → IsMeant t (environment b y) (ss ++ more) d m
   still_meant d (meaning.«Type» ty) h = record {
     readable = h.readable;
     sort = still_by t a b x y d ty s g h.sort;
-    struct = λ struct. still_of_kind t ss more d ty.kind (h.struct struct);
+    struct = λ struct. still_of_kind t a b x y ss more d ty.kind s g (h.struct struct);
   }
+  still_meant d (meaning.Value v) h = (h.0, still_value_by t a b x y d v s g h.1)
   still_meant d m h = h
 
   all_still_meant : {ds : List Declaration} {ms : List Meaning} → AreMeant t (environment a x) ss ds ms → AreMeant t (environment b y) (ss ++ more) ds ms
@@ -81,16 +94,24 @@ pub alias_type : (t : Text) (env : Environment) (d : Declaration) (ty : Measured
 alias_type t env d ty (inl struct) is = absurd (let no : kinds.Struct ≡ kinds.Alias = sym struct ∙ is in cc)
 alias_type t env d ty (inr alias) is = alias.1
 
+pub constant_sort : {E : Type 0} (r : Result Meaning E) (t : Text) (env : Environment) (d : Declaration) (value : List Event) (ty : Option MeasuredType) → d.kind ≡ kinds.Constant
+    → value ≡ initializer d.rest.now → HasTypeIf t env (declared_type d.rest.now) ty → IfOk r (IsConstantOf t env.named value ty) → IfOk r (IsOfSort t env d)
+constant_sort (Ok (meaning.«Type» declared)) t env d value ty is at typed h = absurd h
+constant_sort (Ok (meaning.Value v)) t env d value ty is at typed h = inr (is, (ty, typed, subst (λ es. HasInitial t env.named es ty v) at h))
+constant_sort (Ok m) t env d value ty is at typed h = tt
+constant_sort (Err e) t env d value ty is at typed h = tt
+
 -- no declaration is read yet
-pub all_unread : (ds : List Declaration) → AreMeantBy IsNoType ds (replicate (length ds) meaning.Unread)
+pub all_unread : (ds : List Declaration) → AreMeantBy IsNothing ds (replicate (length ds) meaning.Unread)
 all_unread [] = none_meant
 all_unread (d ∷ ds) = one_meant tt (all_unread ds)
 
-none_is : (t : Text) (env : Environment) (ss : List Struct) (d : Declaration) (m : Meaning) → IsNoType d m → IsMeant t env ss d m
+none_is : (t : Text) (env : Environment) (ss : List Struct) (d : Declaration) (m : Meaning) → IsNothing d m → IsMeant t env ss d m
 none_is t env ss d (meaning.«Type» ty) none = absurd none
+none_is t env ss d (meaning.Value v) none = absurd none
 none_is t env ss d m none = none
 
-pub none_are : (t : Text) (env : Environment) (ss : List Struct) {ds : List Declaration} {ms : List Meaning} → AreMeantBy IsNoType ds ms → AreMeant t env ss ds ms
+pub none_are : (t : Text) (env : Environment) (ss : List Struct) {ds : List Declaration} {ms : List Meaning} → AreMeantBy IsNothing ds ms → AreMeant t env ss ds ms
 none_are t env ss none_meant = none_meant
 none_are t env ss (one_meant {d} {m} none rest) = one_meant (none_is t env ss d m none) (none_are t env ss rest)
 
@@ -103,7 +124,7 @@ type_or : MeasuredType → Meaning → MeasuredType
 type_or d (meaning.«Type» ty) = ty
 type_or d _ = d
 
-kept_meant : (t : Text) (env : Environment) (d : Declaration) (old new : List Struct) (m : Meaning) → d.is_faulty ≡ false → IsOfSort t env d m → (d.kind ≡ kinds.Struct → IsKept t d old new m)
+kept_meant : (t : Text) (env : Environment) (d : Declaration) (old new : List Struct) (m : Meaning) → d.is_faulty ≡ false → IsOfSort t env d m → (d.kind ≡ kinds.Struct → IsKept t env d old new m)
     → IsMeant t env new d m
 unfolding type_or
 kept_meant t env d old new (meaning.«Type» ty) readable sort all = record {
@@ -111,29 +132,30 @@ kept_meant t env d old new (meaning.«Type» ty) readable sort all = record {
   sort = sort;
   struct = λ struct.
       let h = all struct in
-      let at : IsReadAs t new d (length old) =
+      let at : IsReadAs t env new d (length old) =
       record { readable = readable; struct = h.struct; there = subst (λ ss. slice_get ss (length old) ≡ Some h.struct) (sym h.kept) (last_at old h.struct); from = h.from } in
-      subst (λ (ty : MeasuredType). IsReadOfKind t new d ty.kind) (sym (ap (type_or ty) h.named)) (subst (λ k. IsReadOfKind t new d k) (sym h.is.kind) at);
+      subst (λ (ty : MeasuredType). IsReadOfKind t env new d ty.kind) (sym (ap (type_or ty) h.named)) (subst (λ k. IsReadOfKind t env new d k) (sym h.is.kind) at);
 }
+kept_meant t env d old new (meaning.Value v) readable sort all = (readable, sort)
 kept_meant t env d old new m readable sort all = tt
 
 pub kept_at : (a b : Scope) (types : Types) (ds : List Declaration) (i : ℕ) (d : Declaration) (old new : List Struct) (m : Meaning) → b ≡ a → slice_get ds i ≡ Some d → d.is_faulty ≡ false
-    → IsOfSort a.text (environment a types) d m → (d.kind ≡ kinds.Struct → IsKept a.text d old new m) → (e : Declaration) → slice_get ds i ≡ Some e → IsMeant b.text (environment b types) new e m
+    → IsOfSort a.text (environment a types) d m → (d.kind ≡ kinds.Struct → IsKept a.text (environment a types) d old new m) → (e : Declaration) → slice_get ds i ≡ Some e → IsMeant b.text (environment b types) new e m
 kept_at a b types ds i d old new m same is readable sort all e at =
     subst (λ (s : Scope). IsMeant s.text (environment s types) new e m) (sym same)
     (subst (λ x. IsMeant a.text (environment a types) new x m) (same_Some d e (sym is ∙ at)) (kept_meant a.text (environment a types) d old new m readable sort all))
 
 -- declarations are listed
 
-both_listed : {t : Text} {ss : List Struct} {ds es : List Declaration} {is js : List ℕ} {ns ms : List (List ℕ)} → AreListed t ss ds is ns → AreListed t ss es js ms
-    → AreListed t ss (ds ++ es) (is ++ js) (ns ++ ms)
+both_listed : {t : Text} {env : Environment} {ss : List Struct} {ds es : List Declaration} {is js : List ℕ} {ns ms : List (List ℕ)} → AreListed t env ss ds is ns → AreListed t env ss es js ms
+    → AreListed t env ss (ds ++ es) (is ++ js) (ns ++ ms)
 both_listed none_listed h = h
 both_listed (other_listed isnt rest) h = other_listed isnt (both_listed rest h)
 both_listed (kept_listed struct read rest) h = kept_listed struct read (both_listed rest h)
 both_listed (left_listed struct rest) h = left_listed struct (both_listed rest h)
 
-pub unlisted : (t : Text) (ss : List Struct) (d : Declaration) (old new : Listed) → d.kind ≢ kinds.Struct → new.in_text ≡ old.in_text → new.left_out ≡ old.left_out → Lists t ss (d ∷ []) old new
-unlisted t ss d old new isnt indices names = record {
+pub unlisted : (t : Text) (env : Environment) (ss : List Struct) (d : Declaration) (old new : Listed) → d.kind ≢ kinds.Struct → new.in_text ≡ old.in_text → new.left_out ≡ old.left_out → Lists t env ss (d ∷ []) old new
+unlisted t env ss d old new isnt indices names = record {
   indices = [];
   names = [];
   more_indices = ap (λ is. is.items) indices ∙ sym (append-nil old.in_text.items);
@@ -144,7 +166,7 @@ unlisted t ss d old new isnt indices names = record {
 -- what is listed so far, in front of the declarations that are left
 pub record ListedSoFar (t : Text) (env : Environment) (ss : List Struct) (whole left : List Declaration) (meanings : List Meaning) (l : Listed) : Type 0 where
   pub meant : AreMeant t env ss left meanings
-  pub back : {is : List ℕ} {ns : List (List ℕ)} → AreListed t ss left is ns → AreListed t ss whole (l.in_text.items ++ is) (names_of l ++ ns)
+  pub back : {is : List ℕ} {ns : List (List ℕ)} → AreListed t env ss left is ns → AreListed t env ss whole (l.in_text.items ++ is) (names_of l ++ ns)
 
 module _ (t : Text) (env : Environment) (ss : List Struct) (whole : List Declaration) where
   pub none_yet : (left : List Declaration) (ms now : List Meaning) (l : Listed) → left ≡ whole → now ≡ ms → AreMeant t env ss whole ms → l.in_text.items ≡ [] → l.left_out.items ≡ []
@@ -152,8 +174,8 @@ module _ (t : Text) (env : Environment) (ss : List Struct) (whole : List Declara
   none_yet left ms now l all is meant indices names = record {
     meant = subst (λ ds. AreMeant t env ss ds now) (sym all) (subst (λ xs. AreMeant t env ss whole xs) (sym is) meant);
     back =
-        λ {is = js} {ns = xs} h. subst (λ ys. AreListed t ss whole (ys ++ js) (names_of l ++ xs)) (sym indices)
-        (subst (λ vs. AreListed t ss whole js (map (λ name. name.now) vs ++ xs)) (sym names) (subst (λ ds. AreListed t ss ds js xs) all h));
+        λ {is = js} {ns = xs} h. subst (λ ys. AreListed t env ss whole (ys ++ js) (names_of l ++ xs)) (sym indices)
+        (subst (λ vs. AreListed t env ss whole js (map (λ name. name.now) vs ++ xs)) (sym names) (subst (λ ds. AreListed t env ss ds js xs) all h));
   }
 
   meaning_first : {d : Declaration} {m : Meaning} {ds : List Declaration} {ms : List Meaning} → AreMeant t env ss (d ∷ ds) (m ∷ ms) → IsMeant t env ss d m
@@ -163,24 +185,24 @@ module _ (t : Text) (env : Environment) (ss : List Struct) (whole : List Declara
   meanings_left (one_meant is rest) = rest
 
   pub one_listed : (left rest : List Declaration) (ms ns : List Meaning) (d : Declaration) (m : Meaning) (old new : Listed) → left ≡ d ∷ rest → ms ≡ m ∷ ns
-      → (IsMeant t env ss d m → Lists t ss (d ∷ []) old new) → ListedSoFar t env ss whole left ms old → ListedSoFar t env ss whole rest ns new
+      → (IsMeant t env ss d m → Lists t env ss (d ∷ []) old new) → ListedSoFar t env ss whole left ms old → ListedSoFar t env ss whole rest ns new
   one_listed left rest ms ns d m old new is at lists h =
       let meant = subst (λ xs. AreMeant t env ss (d ∷ rest) xs) at (subst (λ xs. AreMeant t env ss xs ms) is h.meant) in
       let more = lists (meaning_first meant) in
       record {
         meant = meanings_left meant;
         back = λ {is = js} {ns = xs} others.
-            let all = h.back (subst (λ ds. AreListed t ss ds (more.indices ++ js) (more.names ++ xs)) (sym is) (both_listed more.are others)) in
-            subst (λ ys. AreListed t ss whole ys (names_of new ++ xs)) (sym (append_assoc old.in_text.items more.indices js) ∙ ap (λ ys. ys ++ js) (sym more.more_indices))
-            (subst (λ ys. AreListed t ss whole (old.in_text.items ++ (more.indices ++ js)) ys) (sym (append_assoc (names_of old) more.names xs) ∙ ap (λ ys. ys ++ xs) (sym more.more_names)) all);
+            let all = h.back (subst (λ ds. AreListed t env ss ds (more.indices ++ js) (more.names ++ xs)) (sym is) (both_listed more.are others)) in
+            subst (λ ys. AreListed t env ss whole ys (names_of new ++ xs)) (sym (append_assoc old.in_text.items more.indices js) ∙ ap (λ ys. ys ++ js) (sym more.more_indices))
+            (subst (λ ys. AreListed t env ss whole (old.in_text.items ++ (more.indices ++ js)) ys) (sym (append_assoc (names_of old) more.names xs) ∙ ap (λ ys. ys ++ xs) (sym more.more_names)) all);
       }
 
-  pub all_listed : (left : List Declaration) (ms : List Meaning) (l : Listed) → (left ≡ []) ⊎ (ms ≡ []) → ListedSoFar t env ss whole left ms l → AreListed t ss whole l.in_text.items (names_of l)
+  pub all_listed : (left : List Declaration) (ms : List Meaning) (l : Listed) → (left ≡ []) ⊎ (ms ≡ []) → ListedSoFar t env ss whole left ms l → AreListed t env ss whole l.in_text.items (names_of l)
   all_listed left ms l none h =
-      subst (λ is. AreListed t ss whole is (names_of l)) (append-nil l.in_text.items)
-      (subst (λ ns. AreListed t ss whole (l.in_text.items ++ []) ns) (append-nil (names_of l)) (h.back (nothing h.meant none)))
+      subst (λ is. AreListed t env ss whole is (names_of l)) (append-nil l.in_text.items)
+      (subst (λ ns. AreListed t env ss whole (l.in_text.items ++ []) ns) (append-nil (names_of l)) (h.back (nothing h.meant none)))
     where
-      nothing : {left : List Declaration} {ms : List Meaning} → AreMeant t env ss left ms → (left ≡ []) ⊎ (ms ≡ []) → AreListed t ss left [] []
+      nothing : {left : List Declaration} {ms : List Meaning} → AreMeant t env ss left ms → (left ≡ []) ⊎ (ms ≡ []) → AreListed t env ss left [] []
       nothing none_meant none = none_listed
       nothing (one_meant {d} {m} {ds} {ms} is rest) (inl at) = let bad : d ∷ ds ≡ [] = at in absurd (cc)
       nothing (one_meant {d} {m} {ds} {ms} is rest) (inr at) = let bad : m ∷ ms ≡ [] = at in absurd (cc)

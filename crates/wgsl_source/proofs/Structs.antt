@@ -1,10 +1,9 @@
 -- The structs of a module stay laid out while others are added.
 use Rattle.std.proofs.Common.{OnOk, Result, Ok, Err, ◌≡◌, List, [], ◌∷◌, ◌++◌, sym, ap, subst, ◌∙◌, append_assoc, append-nil, All}
 use Rattle.wgsl_source.proofs.Common.{All-append, All-cons, All-nil, All-weaker, Event, AreMembers, IsDeclared, Grows, AreStructsOf, IsStructOf, Keeps, SameStructs, IsDeclaredAt, IsFrom, KnownAt, Declaration, Reader, Scope, Struct, Text, Types}
-use Rattle.wgsl_source.proofs.Declarations.{all_still_typed}
+use Rattle.wgsl_source.proofs.Declarations.{still_members}
 use Rattle.wgsl_source.proofs.Members.{all_still_measured, grows_further}
 use Rattle.wgsl_source.proofs.WrittenTypes.{stays_further, stays_same}
-use Rattle.wgsl_source.specs.TextStructs.{AreTyped}
 use Rattle.wgsl_source.specs.WrittenTypes.{Environment, environment}
 use Rattle.wgsl_source.specs.internal.Read.{Stays}
 
@@ -28,8 +27,7 @@ still_declared t whole a b x y s stays g h = record {
   front = h.front;
   first = h.first;
   there = h.there;
-  is = h.is;
-  types = all_still_typed t a b x y stays g h.types;
+  is = record { keyword = h.is.keyword; named = h.is.named; members = still_members t a b x y stays g h.is.members };
 }
 
 pub keeps_further : (Known : Knows) (a b c : Reader) → Keeps Known a b → Keeps Known b c → Keeps Known a c
@@ -83,8 +81,8 @@ keeps_same Known a b same scope = keeps_named Known a b same (stays_same a.scope
 
 -- a struct is read
 pub keeps_one : (d : Declaration) (a b : Reader) (s : Struct) → Grows a.types b.types → b.structs.items ≡ a.structs.items ++ s ∷ [] → IsStructOf b.types.elements.items s
-    → b.scope ≡ a.scope → IsFrom a.scope.text d s → AreTyped a.scope.text (environment a.scope b.types) d.rest.now s.members.items → Keeps (KnownAt d) a b
-keeps_one d a b s g is one scope from typed = record {
+    → b.scope ≡ a.scope → IsFrom a.scope.text (environment a.scope b.types) d s → Keeps (KnownAt d) a b
+keeps_one d a b s g is one scope from = record {
   grows = g;
   added = s ∷ [];
   kept = is;
@@ -93,22 +91,20 @@ keeps_one d a b s g is one scope from typed = record {
   names = stays_same a.scope b.scope scope;
   declared =
       λ whole known. subst (λ (c : Scope). All (IsDeclared a.scope.text (environment c b.types) whole) (s ∷ [])) (sym scope)
-      (All-cons (IsDeclared a.scope.text (environment a.scope b.types) whole) s [] (is_declared a.scope.text (environment a.scope b.types) whole d s known from typed)
+      (All-cons (IsDeclared a.scope.text (environment a.scope b.types) whole) s [] (is_declared a.scope.text (environment a.scope b.types) whole d s known from)
       (All-nil (IsDeclared a.scope.text (environment a.scope b.types) whole)));
 }
   where
-    is_declared : (t : Text) (env : Environment) (whole : List Event) (d : Declaration) (s : Struct) → IsDeclaredAt t whole d → IsFrom t d s → AreTyped t env d.rest.now s.members.items
-        → IsDeclared t env whole s
-    is_declared t env whole d s at from typed = record {
+    is_declared : (t : Text) (env : Environment) (whole : List Event) (d : Declaration) (s : Struct) → IsDeclaredAt t whole d → IsFrom t env d s → IsDeclared t env whole s
+    is_declared t env whole d s at from = record {
       front = at.front;
       first = at.first;
       there = at.there;
       is = record {
         keyword = at.keyword;
         named = record { name = from.name ∙ at.named.name; place = from.place ∙ at.named.place };
-        members = subst (λ es. AreMembers t es s.members.items) at.rest from.members;
+        members = subst (λ es. AreMembers t env es s.members.items) at.rest from.members;
       };
-      types = subst (λ es. AreTyped t env es s.members.items) at.rest typed;
     }
 
 -- all structs are read

@@ -1,23 +1,31 @@
 -- What is read of a written type, and what stays known of it.
-use Rattle.std.proofs.Common.{◌≡◌, ◌≢◌, ◌<◌, ◌+◌, ◌-◌, Bool, true, false, bytes_eq, cond, ℕ, zero, suc, List, [], ◌∷◌, ◌++◌, drop, get_or, length, take, IfOk, OnOk, Result, Ok, Err, Option, Some, None, option_and_then, slice_get, set, refl, sym, ap, subst, ◌∙◌, arith, append_assoc}
-use Rattle.std.proofs.lemmas.List.{take-append-drop}
+use Rattle.std.proofs.Common.{◌≡◌, ◌≢◌, ◌<◌, ◌+◌, ◌-◌, Bool, true, false, bytes_eq, cond, ℕ, zero, suc, List, [], ◌∷◌, ◌++◌, drop, get_or, length, take, All, IfOk, OnOk, Result, Ok, Err, Option, Some, None, option_and_then, slice_get, set, refl, sym, ap, subst, ◌∙◌, arith, append_assoc}
 use Rattle.std.proofs.lemmas.Slice.Eq.{bytes_eq-Decides}
 use Rattle.std.proofs.lemmas.Map.Text.{btree_map_updates_str}
 use Rattle.std.specs.BTreeMap.{UpdatesBy, get_by}
 use Rattle.std.specs.Cmp.Lexicographic.{slice_cmp}
 use Rattle.std.specs.Ordering.{nat_cmp}
+use Rattle.wgsl_reader.specs.declared.kind.Kind.{Kind}
 use Rattle.wgsl_reader.specs.declared.kind.Kind.TheVariants as k
 use Rattle.wgsl_reader.specs.declared.mark.Mark.{Mark}
 use Rattle.wgsl_reader.specs.declared.mark.Mark.TheVariants as m
 use Rattle.wgsl_reader.specs.declared.token.Token.{Token}
 use Rattle.wgsl_source.proofs.Common.{at_drop_more, same_Some, Event, word, token_before, Count, Declaration, Grows, MeasuredType, Scope, Text, Types}
 use Rattle.wgsl_source.proofs.Members.{still_at}
-use Rattle.wgsl_source.specs.WrittenTypes.{AreElements, BecomesValue, ClosesList, Environment, HasType, IsAround, IsCount, IsLayered, IsListed, IsListedBy, IsPointer, IsTypeSaid, IsValueSaid, StandsFor, Step, Steps, environment, index_of, item, meaning_of}
+use Rattle.wgsl_source.specs.Calls.{callee_named, callee_of}
+use Rattle.wgsl_source.specs.Declarations.{declared_type, initializer}
+use Rattle.wgsl_source.specs.TemplateLists.{AreParameters, IsListedAs, IsSampledBy}
+use Rattle.wgsl_source.specs.WrittenTypes.{AreElements, BecomesValue, Closes, Environment, HasConstant, HasType, HasTypeIf, HasValue, IsAround, IsBinary, IsCount, IsElementOf, IsLayered, IsListed, IsListedBy, IsMemberOf, IsNoSign, IsPointer, IsSettled, IsTypeSaid, IsUnary, IsValueCalled, IsValueSaid, StandsFor, Step, Steps, environment, index_of, item, meaning_of}
 use Rattle.wgsl_spelling.specs.declared.predeclared.LayerName.{LayerName}
 use Rattle.wgsl_spelling.specs.declared.predeclared.LayerName.TheVariants as layer
 use Rattle.wgsl_spelling.specs.declared.predeclared.PredeclaredType.{PredeclaredType}
 use Rattle.wgsl_spelling.specs.declared.predeclared.PredeclaredType.TheVariants as p
+use Rattle.wgsl_syntax.specs.declared.texture.SampledType.{SampledType}
+use Rattle.wgsl_syntax.specs.declared.texture_name.TextureParameters.{TextureParameters}
+use Rattle.wgsl_syntax.specs.declared.texture_name.TextureParameters.TheVariants as parameters
+use Rattle.wgsl_source.specs.declared.call.Callee.{Callee}
 use Rattle.wgsl_source.specs.declared.value.Value.{Value}
+use Rattle.wgsl_source.specs.internal.Items.{IsPut}
 use Rattle.wgsl_source.specs.internal.Read.{AreNamed, Stays}
 use Rattle.wgsl_source.specs.declared.item.Content.{Content}
 use Rattle.wgsl_source.specs.declared.item.Content.TheVariants as content
@@ -33,24 +41,15 @@ one_step t e events i event items next new within step rest = subst (λ es. Step
 
 -- items at the end are replaced
 
-pub value_put : {A E : Type 0} (r : Result A E) (items left taken new : List Item) (k : Token) (v : Value) → items ≡ left ++ taken → OnOk r (new ≡ left ++ item k (content.Value v) ∷ [])
-    → OnOk r (BecomesValue items new)
-value_put (Ok x) items left taken new k v there is = record { front = left; taken = taken; there = there; token = k; value = v; replaced = is }
-value_put (Err x) items left taken new k v there is = tt
+pub value_put : {A E C : Type 0} (Is : List Item → Value → Type 0) (r : Result A E) (u : Result Value C) (items left taken new : List Item) (first : Item) → items ≡ left ++ taken → IfOk u (Is taken)
+    → OnOk r (IsPut u first left new) → OnOk r (BecomesValue Is items new)
+value_put Is (Ok x) (Ok v) items left taken new first there is put =
+    record { front = left; taken = taken; there = there; token = first.token; value = v; is = is; replaced = put }
+value_put Is (Ok x) (Err c) items left taken new first there is put = absurd put
+value_put Is (Err x) u items left taken new first there is put = tt
 
-pub value_behind : {A E : Type 0} (r : Result A E) (items left taken new : List Item) → items ≡ left ++ taken → OnOk r (BecomesValue left new) → OnOk r (BecomesValue items new)
-value_behind (Ok x) items left taken new is h = record {
-  front = h.front;
-  taken = h.taken ++ taken;
-  there = is ∙ (ap (λ xs. xs ++ taken) h.there ∙ append_assoc h.front h.taken taken);
-  token = h.token;
-  value = h.value;
-  replaced = h.replaced;
-}
-value_behind (Err x) items left taken new is h = tt
-
-pub cut_at : (items left : List Item) (n : ℕ) → left ≡ take n items → items ≡ left ++ drop n items
-cut_at items left n cut = sym (take-append-drop n items) ∙ ap (λ xs. xs ++ drop n items) (sym cut)
+pub one_more_taken : (items left rest taken : List Item) (i : Item) → items ≡ left ++ taken → left ≡ rest ++ i ∷ [] → items ≡ rest ++ i ∷ taken
+one_more_taken items left rest taken i is one = is ∙ (ap (λ xs. xs ++ taken) one ∙ append_assoc rest (i ∷ []) taken)
 
 two_at : {A : Type 0} (xs : List A) (i : ℕ) (a b : A) → slice_get xs i ≡ Some a → slice_get xs (suc i) ≡ Some b → xs ≡ take i xs ++ a ∷ b ∷ drop (suc (suc i)) xs
 two_at [] i a b first second = absurd (let no : None ≡ Some a = first in cc)
@@ -59,28 +58,29 @@ two_at (x ∷ y ∷ xs) zero a b first second = subst (λ z. x ∷ y ∷ xs ≡ 
 two_at (x ∷ xs) (suc i) a b first second = ap (λ ys. x ∷ ys) (two_at xs i a b first second)
 
 -- what is known of the sign in front of an index
-abbrev pub IsBehindSign : List Item → ℕ → Type 0
-IsBehindSign items first = 0 < first → (it : Item) × (slice_get items (first - 1) ≡ Some it) × (it.content ≡ content.Sign k.OpenTemplate)
+abbrev pub IsBehindSign : Kind → List Item → ℕ → Type 0
+IsBehindSign sign items first = 0 < first → (it : Item) × (slice_get items (first - 1) ≡ Some it) × (it.content ≡ content.Sign sign)
 
-pub list_closed : {A E : Type 0} (r : Result A E) (t : Text) (e : Environment) (items all listed left new : List Item) (name : Item) (first at : ℕ) (c : Content) → all ≡ items → IsBehindSign all first
-    → first ≡ suc (suc at) → slice_get all at ≡ Some name → listed ≡ drop first all → left ≡ take at items → IsListedBy t e (word t.text.now name.token) listed c
-    → OnOk r (new ≡ left ++ item name.token c ∷ []) → OnOk r (ClosesList t e items new)
-list_closed (Ok x) t e items all listed left new name first at c same signs is named behind cut by replaced =
-    let signed : (it : Item) × (slice_get all (suc (suc at) - 1) ≡ Some it) × (it.content ≡ content.Sign k.OpenTemplate) = subst (IsBehindSign all) is signs (omega arith) in
+pub closed : {A E : Type 0} (r : Result A E) (sign : Kind) (Is : Item → List Item → Content → Type 0) (items all listed left new : List Item) (name : Item) (first at : ℕ) (c : Content) → all ≡ items
+    → IsBehindSign sign all first → All (IsNoSign sign) (drop first all) → first ≡ suc (suc at) → slice_get all at ≡ Some name → listed ≡ drop first all → left ≡ take at items → Is name listed c
+    → OnOk r (new ≡ left ++ item name.token c ∷ []) → OnOk r (Closes sign Is items new)
+closed (Ok x) sign Is items all listed left new name first at c same signs last is named behind cut by replaced =
+    let signed : (it : Item) × (slice_get all (suc (suc at) - 1) ≡ Some it) × (it.content ≡ content.Sign sign) = subst (IsBehindSign sign all) is signs (omega arith) in
     let one : suc (suc at) - 1 ≡ suc at = omega arith in
     record {
       front = take at items;
       name = name;
-      sign = signed.0;
+      opening = signed.0;
       listed = listed;
       there = subst (λ xs. xs ≡ take at xs ++ name ∷ signed.0 ∷ listed) same
           (two_at all at name signed.0 named (subst (λ n. slice_get all n ≡ Some signed.0) one signed.1) ∙ ap (λ xs. take at all ++ name ∷ signed.0 ∷ xs) (sym (behind ∙ ap (λ n. drop n all) is)));
       opens = signed.2;
+      last = subst (λ xs. All (IsNoSign sign) xs) (sym behind) last;
       content = c;
       is = by;
       replaced = replaced ∙ ap (λ xs. xs ++ item name.token c ∷ []) cut;
     }
-list_closed (Err x) t e items all listed left new name first at c same signs is named behind cut by replaced = tt
+closed (Err x) sign Is items all listed left new name first at c same signs last is named behind cut by replaced = tt
 
 -- what is known stays known
 
@@ -106,35 +106,37 @@ type_read ty is = let no : meaning.«Type» ty ≡ meaning.Unread = is in cc
 value_read : (v : Value) → meaning.Value v ≢ meaning.Unread
 value_read v is = let no : meaning.Value v ≡ meaning.Unread = is in cc
 
-module _ (t : Text) (a b : Scope) (x y : Types) (s : Stays a b) (g : Grows x y) where
-  still_there : (index : ℕ) (ty : MeasuredType) → slice_get x.elements.items index ≡ Some ty → slice_get y.elements.items index ≡ Some ty
-  still_there index ty at = subst (λ es. slice_get es index ≡ Some ty) (sym g.kept) (still_at x.elements.items g.added index ty at)
+still_there : (x y : Types) → Grows x y → (index : ℕ) (ty : MeasuredType) → slice_get x.elements.items index ≡ Some ty → slice_get y.elements.items index ≡ Some ty
+still_there x y g index ty at = subst (λ es. slice_get es index ≡ Some ty) (sym g.kept) (still_at x.elements.items g.added index ty at)
 
-  still_said : (k : Token) (c : Content) (ty : MeasuredType) → IsTypeSaid t (meaning_of a) k c ty → IsTypeSaid t (meaning_of b) k c ty
+module _ (t : Text) (e f : Environment) (read : (name : List ℕ) (m : Meaning) → m ≢ meaning.Unread → e.named name ≡ Some m → f.named name ≡ Some m)
+    (undeclared : (name : List ℕ) → e.named name ≡ None → f.named name ≡ None)
+    (there : (index : ℕ) (ty : MeasuredType) → slice_get e.elements index ≡ Some ty → slice_get f.elements index ≡ Some ty) where
+  still_said : (k : Token) (c : Content) (ty : MeasuredType) → IsTypeSaid t e.named k c ty → IsTypeSaid t f.named k c ty
   still_said k content.Name ty h =
       let name = word t.text.now k in
-      still_named name (meaning_of a name) (meaning_of b name) ty (λ ty at. s.meanings name (meaning.«Type» ty) (type_read ty) at) (s.undeclared name) h
+      still_named name (e.named name) (f.named name) ty (λ ty at. read name (meaning.«Type» ty) (type_read ty) at) (undeclared name) h
   still_said k other ty h = h
 
-  still_value : (k : Token) (c : Content) (v : Value) → IsValueSaid t (meaning_of a) k c v → IsValueSaid t (meaning_of b) k c v
-  still_value k content.Name v h = s.meanings (word t.text.now k) (meaning.Value v) (value_read v) h
+  still_value : (k : Token) (c : Content) (v : Value) → IsValueSaid t e.named k c v → IsValueSaid t f.named k c v
+  still_value k content.Name v h = read (word t.text.now k) (meaning.Value v) (value_read v) h
   still_value k other v h = h
 
-  still_count : (items : List Item) (c : Count) → IsCount t (meaning_of a) items c → IsCount t (meaning_of b) items c
+  still_count : (items : List Item) (c : Count) → IsCount t e.named items c → IsCount t f.named items c
   still_count [] c h = h
   still_count (i ∷ []) c h = (h.0, still_value i.token i.content h.0 h.1, h.2)
   still_count (i ∷ j ∷ more) c h = h
 
-  still_elements : (items : List Item) (ty : MeasuredType) (c : Count) → AreElements t (meaning_of a) items ty c → AreElements t (meaning_of b) items ty c
+  still_elements : (items : List Item) (ty : MeasuredType) (c : Count) → AreElements t e.named items ty c → AreElements t f.named items ty c
   still_elements [] ty c h = h
   still_elements (i ∷ rest) ty c h = (still_said i.token i.content ty h.0, still_count rest c h.1)
 
-  still_around : (l : LayerName) (items : List Item) (ty : MeasuredType) → IsAround t (meaning_of a) l items ty → IsAround t (meaning_of b) l items ty
+  still_around : (l : LayerName) (items : List Item) (ty : MeasuredType) → IsAround t e.named l items ty → IsAround t f.named l items ty
   still_around l [] ty h = h
   still_around l (i ∷ []) ty h = (h.0, still_said i.token i.content h.0 h.1, h.2)
   still_around l (i ∷ j ∷ more) ty h = h
 
-  still_pointer : (items : List Item) (ty : MeasuredType) → IsPointer t (environment a x) items ty → IsPointer t (environment b y) items ty
+  still_pointer : (items : List Item) (ty : MeasuredType) → IsPointer t e items ty → IsPointer t f items ty
   still_pointer [] ty h = h
   still_pointer (i ∷ []) ty h = h
   still_pointer (i ∷ j ∷ rest) ty h = record {
@@ -146,15 +148,15 @@ module _ (t : Text) (a b : Scope) (x y : Types) (s : Stays a b) (g : Grows x y) 
     said = still_said j.token j.content h.inside h.said;
     accessed = h.accessed;
     is = h.is;
-    there = still_there h.index h.inside h.there;
+    there = there h.index h.inside h.there;
   }
 
-  still_layered : (l : LayerName) (items : List Item) (ty : MeasuredType) → IsLayered t (environment a x) l items ty → IsLayered t (environment b y) l items ty
+  still_layered : (l : LayerName) (items : List Item) (ty : MeasuredType) → IsLayered t e l items ty → IsLayered t f l items ty
   still_layered layer.Array items ty h = record {
     element = h.element;
     count = h.count;
     said = still_elements items h.element h.count h.said;
-    is = record { index = h.is.index; kind = h.is.kind; there = still_there h.is.index h.element h.is.there; measure = h.is.measure };
+    is = record { index = h.is.index; kind = h.is.kind; there = there h.is.index h.element h.is.there; measure = h.is.measure };
   }
   still_layered layer.BindingArray items ty h = record {
     element = h.element;
@@ -162,40 +164,113 @@ module _ (t : Text) (a b : Scope) (x y : Types) (s : Stays a b) (g : Grows x y) 
     said = still_elements items h.element h.count h.said;
     index = h.index;
     is = h.is;
-    there = still_there h.index h.element h.there;
+    there = there h.index h.element h.there;
   }
   still_layered layer.Pointer items ty h = still_pointer items ty h
   still_layered l items ty h = still_around l items ty h
 
-  still_listed : (named : PredeclaredType) (items : List Item) (ty : MeasuredType) → IsListed t (environment a x) named items ty → IsListed t (environment b y) named items ty
+  still_sampled : (name : List ℕ) (m n : Option Meaning) (sampled : SampledType) → ((ty : MeasuredType) → m ≡ Some (meaning.«Type» ty) → n ≡ Some (meaning.«Type» ty)) → (m ≡ None → n ≡ None)
+      → IsSampledBy name m sampled → IsSampledBy name n sampled
+  still_sampled name (Some (meaning.«Type» ty)) n sampled types none h = subst (λ m. IsSampledBy name m sampled) (sym (types ty refl)) h
+  still_sampled name (Some meant) n sampled types none h = absurd h
+  still_sampled name None n sampled types none h = subst (λ m. IsSampledBy name m sampled) (sym (none refl)) h
+
+  still_parameters : (items : List Item) (ps : TextureParameters) → AreParameters t e.named items ps → AreParameters t f.named items ps
+  still_parameters (i ∷ []) (parameters.Sampled sampled) h =
+      let name = word t.text.now i.token in
+      record { name = h.name; is = still_sampled name (e.named name) (f.named name) sampled (λ ty at. read name (meaning.«Type» ty) (type_read ty) at) (undeclared name) h.is }
+  still_parameters (i ∷ j ∷ []) (parameters.Storage format access) h = h
+  still_parameters items other h = absurd h
+
+  still_listed : (named : PredeclaredType) (items : List Item) (ty : MeasuredType) → IsListed t e named items ty → IsListed t f named items ty
   still_listed (p.Layer l) items ty h = still_layered l items ty h
-  still_listed named items ty h = h
+  still_listed (p.Texture name) items ty h = (h.0, record { parameters = h.1.parameters; said = still_parameters items h.1.parameters h.1.said; is = h.1.is }, h.2)
+  still_listed p.RayQuery items ty h = h
+  still_listed p.AccelerationStructure items ty h = h
+  still_listed named items ty h = absurd h
 
-  still_listed_by : (name : List ℕ) (items : List Item) (c : Content) → IsListedBy t (environment a x) name items c → IsListedBy t (environment b y) name items c
-  still_listed_by name items (content.«Type» ty) h = (s.undeclared name h.0, h.1, h.2, still_listed h.1 items ty h.3)
-  still_listed_by name items other h = h
+  still_listed_as : (name : List ℕ) (items : List Item) (c : Content) → IsListedAs t e name items c → IsListedAs t f name items c
+  still_listed_as name items (content.«Type» ty) h = (h.0, h.1, still_listed h.0 items ty h.2)
+  still_listed_as name (i ∷ []) (content.Bitcast scalar) h = (h.0, h.1, still_said i.token i.content h.1 h.2, h.3)
+  still_listed_as name items content.Function h = h
+  still_listed_as name items other h = absurd h
 
-  still_step : (mark : Mark) (k : Token) (items new : List Item) → Step t (environment a x) mark k items new → Step t (environment b y) mark k items new
-  still_step m.Template k items new h = record {
+  still_callee_named : (name : List ℕ) (m n : Option Meaning) (callee : Callee) → ((ty : MeasuredType) → m ≡ Some (meaning.«Type» ty) → n ≡ Some (meaning.«Type» ty)) → (m ≡ None → n ≡ None)
+      → callee_named name m ≡ Some callee → callee_named name n ≡ Some callee
+  still_callee_named name (Some (meaning.«Type» ty)) n callee types none h = ap (callee_named name) (types ty refl) ∙ h
+  still_callee_named name (Some meant) n callee types none h = absurd (let no : None ≡ Some callee = h in cc)
+  still_callee_named name None n callee types none h = ap (callee_named name) (none refl) ∙ h
+
+  still_callee : (k : Token) (c : Content) (callee : Callee) → callee_of t e.named k c ≡ Some callee → callee_of t f.named k c ≡ Some callee
+  still_callee k content.Name callee h =
+      let name = word t.text.now k in
+      still_callee_named name (e.named name) (f.named name) callee (λ ty at. read name (meaning.«Type» ty) (type_read ty) at) (undeclared name) h
+  still_callee k other callee h = h
+
+  still_called : (name : Item) (items : List Item) (c : Content) → IsValueCalled t e.named name items c → IsValueCalled t f.named name items c
+  still_called name items (content.Value v) h = (h.0, still_callee name.token name.content h.0 h.1, h.2)
+  still_called name items other h = absurd h
+
+  still_settled : (items : List Item) (v : Value) → IsSettled t e.named items v → IsSettled t f.named items v
+  still_settled (i ∷ []) v h = still_value i.token i.content v h
+  still_settled items v h = absurd h
+
+  still_unary : (items : List Item) (v : Value) → IsUnary t e.named items v → IsUnary t f.named items v
+  still_unary (sign ∷ i ∷ []) v h = (h.0, still_value i.token i.content h.0 h.1, h.2)
+  still_unary items v h = absurd h
+
+  still_binary : (items : List Item) (v : Value) → IsBinary t e.named items v → IsBinary t f.named items v
+  still_binary (i ∷ sign ∷ j ∷ []) v h = (h.0, h.1, still_value i.token i.content h.0 h.2, still_value j.token j.content h.1 h.3, h.4)
+  still_binary items v h = absurd h
+
+  still_member : (letter : Token) (items : List Item) (v : Value) → IsMemberOf t e.named letter items v → IsMemberOf t f.named letter items v
+  still_member letter (i ∷ []) v h = (h.0, still_value i.token i.content h.0 h.1, h.2)
+  still_member letter items v h = absurd h
+
+  still_element : (items : List Item) (v : Value) → IsElementOf t e.named items v → IsElementOf t f.named items v
+  still_element (i ∷ sign ∷ j ∷ []) v h = (h.0, h.1, still_value i.token i.content h.0 h.2, still_value j.token j.content h.1 h.3, h.4)
+  still_element items v h = absurd h
+
+  still_closes : (sign : Kind) (P Q : Item → List Item → Content → Type 0) (items new : List Item) → ((name : Item) (listed : List Item) (c : Content) → P name listed c → Q name listed c) → Closes sign P items new
+      → Closes sign Q items new
+  still_closes sign P Q items new all h = record {
     front = h.front;
     name = h.name;
-    sign = h.sign;
+    opening = h.opening;
     listed = h.listed;
     there = h.there;
     opens = h.opens;
+    last = h.last;
     content = h.content;
-    is = still_listed_by (word t.text.now h.name.token) h.listed h.content h.is;
+    is = all h.name h.listed h.content h.is;
     replaced = h.replaced;
   }
-  still_step other k items new h = h
 
-  still_steps : (events : List Event) (items new : List Item) → Steps t (environment a x) events items new → Steps t (environment b y) events items new
+  still_becomes : (P Q : List Item → Value → Type 0) (items new : List Item) → ((taken : List Item) (v : Value) → P taken v → Q taken v) → BecomesValue P items new → BecomesValue Q items new
+  still_becomes P Q items new all h =
+      record { front = h.front; taken = h.taken; there = h.there; token = h.token; value = h.value; is = all h.taken h.value h.is; replaced = h.replaced }
+
+  still_step : (mark : Mark) (token : Token) (items new : List Item) → Step t e mark token items new → Step t f mark token items new
+  still_step m.Template token items new h = still_closes k.OpenTemplate (IsListedBy t e) (IsListedBy t f) items new
+      (λ name listed c is. (undeclared (word t.text.now name.token) is.0, still_listed_as (word t.text.now name.token) listed c is.1)) h
+  still_step m.Call token items new h = still_closes k.OpenRound (IsValueCalled t e.named) (IsValueCalled t f.named) items new still_called h
+  still_step m.Argument token items new h = still_becomes (IsSettled t e.named) (IsSettled t f.named) items new still_settled h
+  still_step m.Brackets token items new h = still_becomes (IsSettled t e.named) (IsSettled t f.named) items new still_settled h
+  still_step m.Unary token items new h = still_becomes (IsUnary t e.named) (IsUnary t f.named) items new still_unary h
+  still_step m.Binary token items new h = still_becomes (IsBinary t e.named) (IsBinary t f.named) items new still_binary h
+  still_step m.MemberOf token items new h = still_becomes (IsMemberOf t e.named token) (IsMemberOf t f.named token) items new (still_member token) h
+  still_step m.Element token items new h = still_becomes (IsElementOf t e.named) (IsElementOf t f.named) items new still_element h
+  still_step other token items new h = h
+
+  still_steps : (events : List Event) (items new : List Item) → Steps t e events items new → Steps t f events items new
   still_steps [] items new h = h
   still_steps (event ∷ events) items new h = (h.0, still_step event.mark (token_before t event.at) items h.0 h.1, still_steps events h.0 new h.2)
 
 pub still_type : (t : Text) (a b : Scope) (x y : Types) (events : List Event) (ty : MeasuredType) → Stays a b → Grows x y → HasType t (environment a x) events ty → HasType t (environment b y) events ty
 still_type t a b x y events ty s g h =
-    (h.0, still_steps t a b x y s g events [] (h.0 ∷ []) h.1, still_said t a b x y s g h.0.token h.0.content ty h.2)
+    let e = environment a x in
+    let f = environment b y in
+    (h.0, still_steps t e f s.meanings s.undeclared (still_there x y g) events [] (h.0 ∷ []) h.1, still_said t e f s.meanings s.undeclared (still_there x y g) h.0.token h.0.content ty h.2)
 
 -- one step more is taken while the events are read
 pub all_steps : (t : Text) (s : Scope) (x y : Types) (events : List Event) (i : ℕ) (event : Event) (items next new : List Item) → i < length events → Grows x y
@@ -203,14 +278,44 @@ pub all_steps : (t : Text) (s : Scope) (x y : Types) (events : List Event) (i : 
     → Steps t (environment s y) (drop i events) items new
 all_steps t s x y events i event items next new within g step rest =
     one_step t (environment s y) events i event items next new within
-    (still_step t s s x y (stays_same s s refl) g (get_or events i event).mark (token_before t (get_or events i event).at) items next step) rest
+    (still_step t (environment s x) (environment s y) (λ name m isnt is. is) (λ name is. is) (still_there x y g) (get_or events i event).mark (token_before t (get_or events i event).at) items next step) rest
+
+pub still_value_of : (t : Text) (a b : Scope) (events : List Event) (v : Value) → Stays a b → HasValue t (meaning_of a) events v → HasValue t (meaning_of b) events v
+still_value_of t a b events v s h =
+    let e : Environment = record { named = meaning_of a; elements = h.elements } in
+    let f : Environment = record { named = meaning_of b; elements = h.elements } in
+    record {
+      elements = h.elements;
+      x = h.x;
+      made = still_steps t e f s.meanings s.undeclared (λ index ty at. at) events [] (h.x ∷ []) h.made;
+      said = still_value t e f s.meanings s.undeclared (λ index ty at. at) h.x.token h.x.content v h.said;
+    }
+
+pub still_type_if : (t : Text) (a b : Scope) (x y : Types) (events : List Event) (ty : Option MeasuredType) → Stays a b → Grows x y → HasTypeIf t (environment a x) events ty
+    → HasTypeIf t (environment b y) events ty
+still_type_if t a b x y events (Some ty) s g h = still_type t a b x y events ty s g h
+still_type_if t a b x y events None s g h = h
+
+pub still_constant : (t : Text) (a b : Scope) (x y : Types) (events : List Event) (v : Value) → Stays a b → Grows x y → HasConstant t (environment a x) events v → HasConstant t (environment b y) events v
+still_constant t a b x y events v s g h =
+    (h.0, still_type_if t a b x y (declared_type events) h.0 s g h.1, (h.2.0, still_value_of t a b (initializer events) h.2.0 s h.2.1, h.2.2))
 
 -- the one item is the type
 pub noted : {E : Type 0} (t : Text) (s : Scope) (x y : Types) (events : List Event) (none items : List Item) (i : Item) (r : Result MeasuredType E) → none ≡ [] → items ≡ i ∷ []
     → Grows x y → Steps t (environment s x) events none items → IfOk r (IsTypeSaid t (meaning_of s) i.token i.content) → IfOk r (HasType t (environment s y) events)
 noted t s x y events none items i (Ok ty) empty one g steps said =
-    (i, still_steps t s s x y (stays_same s s refl) g events [] (i ∷ []) (subst (λ xs. Steps t (environment s x) events [] xs) one (subst (λ xs. Steps t (environment s x) events xs items) empty steps)), said)
+    (i, still_steps t (environment s x) (environment s y) (λ name m isnt is. is) (λ name is. is) (still_there x y g) events [] (i ∷ []) (subst (λ xs. Steps t (environment s x) events [] xs) one (subst (λ xs. Steps t (environment s x) events xs items) empty steps)), said)
 noted t s x y events none items i (Err e) empty one g steps said = tt
+
+-- the one item is the value
+pub value_made : (t : Text) (s : Scope) (x : Types) (events : List Event) (none items : List Item) (i : Item) (v : Value) → none ≡ [] → items ≡ i ∷ []
+    → Steps t (environment s x) events none items → IsValueSaid t (meaning_of s) i.token i.content v → HasValue t (meaning_of s) events v
+value_made t s x events none items i v empty one steps said = record {
+  elements = x.elements.items;
+  x = i;
+  made = subst (λ xs. Steps t (environment s x) events [] xs) one (subst (λ xs. Steps t (environment s x) events xs items) empty steps);
+  said = said;
+}
 
 -- a declaration gets its name
 

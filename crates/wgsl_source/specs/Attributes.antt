@@ -1,27 +1,27 @@
 -- The attributes of members, variables, overrides and functions (WGSL, "Attributes").
-use Rattle.std.specs.Prelude.{◌≡◌, ◌≢◌, ℕ, List, [], ◌∷◌, Bool, true, false, Option, Some, None, codes, cond, drop, option_map, pos, take}
+use Rattle.std.specs.Prelude.{◌≡◌, ◌≢◌, ℕ, zero, suc, List, [], ◌∷◌, Bool, true, false, Option, Some, None, codes, cond, drop, pos, take}
 use Rattle.std.specs.Option.{option_or}
 use denote.Enum.Bare.{sameb}
 use Rattle.wgsl_constants.specs.Conversions.{number}
-use Rattle.wgsl_constants.specs.Literals.{integer_of}
-use Rattle.wgsl_constants.specs.declared.constant.Constant.{Constant}
 use Rattle.wgsl_constants.specs.declared.constant.Constant.TheVariants as constant
 use Rattle.wgsl_constants.specs.declared.integer.Integer.{Integer}
 use Rattle.wgsl_reader.specs.declared.mark.Mark.{Mark}
 use Rattle.wgsl_reader.specs.declared.mark.Mark.TheVariants as m
 use Rattle.wgsl_reader.specs.declared.read.Event.{Event}
-use Rattle.wgsl_reader.specs.declared.token.Token.{Token}
 use Rattle.wgsl_spelling.specs.Words.{word}
 use Rattle.wgsl_syntax.specs.Names.{named}
-use Rattle.wgsl_source.specs.Declarations.{attribute_len, token_before, without_last}
+use Rattle.wgsl_source.specs.Declarations.{argument_len, attribute_len, token_before, without_last}
+use Rattle.wgsl_source.specs.WrittenTypes.{HasValue}
 use Rattle.wgsl_source.specs.contracts.attribute.Name.{the_type as name_type}
 use Rattle.wgsl_source.specs.declared.attribute.Attributes.{Attributes}
 use Rattle.wgsl_source.specs.declared.attribute.Name.{Name}
 use Rattle.wgsl_source.specs.declared.attribute.Name.TheVariants as name
 use Rattle.wgsl_source.specs.declared.entry.Stage.{Stage}
 use Rattle.wgsl_source.specs.declared.entry.Stage.TheVariants as stage
+use Rattle.wgsl_source.specs.declared.entry.WorkgroupExtent.{WorkgroupExtent}
+use Rattle.wgsl_source.specs.declared.entry.WorkgroupExtent.TheVariants as extent
+use Rattle.wgsl_source.specs.declared.scope.Meaning.{Meaning}
 use Rattle.wgsl_source.specs.declared.text.Text.{Text}
-use Rattle.wgsl_source.specs.declared.value.Value.{Value}
 use Rattle.wgsl_source.specs.declared.value.Value.TheVariants as value
 
 -- the attributes by their names
@@ -32,22 +32,10 @@ attribute_names =
     (name.Id, codes "id") ∷ (name.Interpolate, codes "interpolate") ∷ (name.Invariant, codes "invariant") ∷ (name.Location, codes "location") ∷
     (name.MustUse, codes "must_use") ∷ (name.Size, codes "size") ∷ (name.Vertex, codes "vertex") ∷ (name.WorkgroupSize, codes "workgroup_size") ∷ []
 
--- an attribute: its name, if WGSL has it, and its argument, if that is one literal: `16` of `@size(16)`
+-- an attribute: its name, if WGSL has it, and the events of its arguments, each with its end: `16` of `@size(16)`
 pub record Attribute : Type 0 where
   pub name : Option Name
-  pub literal : Option (List ℕ)
-
-abbrev pub is_literal : Mark → Mark → Bool
-is_literal m.Literal m.Argument = true
-is_literal first end = false
-
--- the argument, if it is one literal
-abbrev pub literal_token : Text → List Event → Option Token
-literal_token t (event ∷ end ∷ []) = cond (is_literal event.mark end.mark) (Some (token_before t event.at)) None
-literal_token t events = None
-
-abbrev pub literal_in : Text → List Event → Option (List ℕ)
-literal_in t arguments = option_map (word t.text.now) (literal_token t arguments)
+  pub arguments : List Event
 
 -- `off` in `@diagnostic(off, a)`, which has no other name in front
 abbrev pub is_severity : Mark → Bool
@@ -60,8 +48,9 @@ name_by false text = named attribute_names text
 
 -- the attribute that these events say: `@size(16)`
 abbrev pub attribute_of : Text → List Event → Attribute
-attribute_of t [] = record { name = None; literal = None }
-attribute_of t (event ∷ events) = record { name = name_by (is_severity event.mark) (word t.text.now (token_before t event.at)); literal = literal_in t (without_last events) }
+attribute_of t [] = record { name = None; arguments = [] }
+attribute_of t (event ∷ events) =
+    record { name = name_by (is_severity event.mark) (word t.text.now (token_before t event.at)); arguments = without_last events }
 
 -- the attributes in front, in order
 pub data InFront (t : Text) : List Event → List Attribute → Type 0 where
@@ -78,9 +67,9 @@ abbrev pub is_named : Name → Option Name → Bool
 is_named n (Some other) = sameb name_type n other
 is_named n None = false
 
--- the argument of an attribute with this name
-abbrev pub argument_if : Name → Attribute → Option (Option (List ℕ))
-argument_if n a = cond (is_named n a.name) (Some a.literal) None
+-- the arguments of an attribute with this name
+abbrev pub arguments_if : Name → Attribute → Option (List Event)
+arguments_if n a = cond (is_named n a.name) (Some a.arguments) None
 
 -- `@vertex`
 abbrev pub stage_named : Option Name → Option Stage
@@ -92,41 +81,46 @@ stage_named other = None
 abbrev pub stage_by : Attribute → Option Stage
 stage_by a = stage_named a.name
 
--- a constant that is an integer is that of the literal
-abbrev pub IsLiteral : List ℕ → Constant → Type 0
-IsLiteral text (constant.Integer i) = integer_of text ≡ Some i
-IsLiteral text other = Unit {0}
+-- an argument gives a number: `0x10u` 16, `2 * N` the product
+abbrev pub GivesNumber : Text → (List ℕ → Option Meaning) → List Event → ℕ → Type 0
+GivesNumber t named argument n = (i : Integer) × HasValue t named (without_last argument) (value.Known (constant.Integer i)) × (number i ≡ pos n)
 
--- the value of an argument, if that is one literal
-abbrev pub IsArgument : Option (List ℕ) → Value → Type 0
-IsArgument (Some text) (value.Known c) = IsLiteral text c
-IsArgument text other = Unit {0}
+-- how many invocations a workgroup has in a dimension: the number that an argument gives, or that of an override
+abbrev pub IsExtent : Text → (List ℕ → Option Meaning) → List Event → WorkgroupExtent → Type 0
+IsExtent t named argument (extent.Known n) = GivesNumber t named argument n
+IsExtent t named argument extent.Override = HasValue t named (without_last argument) value.Later
 
--- an argument gives a number: a literal its value, `0x10u` 16. Which number another expression gives isn't said.
-abbrev pub IsValueOf : Option (List ℕ) → ℕ → Type 0
-IsValueOf (Some text) n = (i : Integer) × (integer_of text ≡ Some i) × (number i ≡ pos n)
-IsValueOf None n = Unit {0}
+-- the first events, which are an argument, give an extent; if there is none, it is 1
+abbrev pub GivesExtent : Text → (List ℕ → Option Meaning) → List Event → ℕ → WorkgroupExtent → Type 0
+GivesExtent t named arguments zero x = x ≡ extent.Known 1
+GivesExtent t named arguments (suc n) x = IsExtent t named (take (suc n) arguments) x
 
--- a number is there exactly if an argument is
-abbrev pub IsNumberOf : Option (Option (List ℕ)) → Option ℕ → Type 0
-IsNumberOf (Some argument) (Some n) = IsValueOf argument n
-IsNumberOf None None = Unit {0}
-IsNumberOf other n = ⊥
+abbrev pub GiveExtents : Text → (List ℕ → Option Meaning) → List Event → List WorkgroupExtent → Type 0
+GiveExtents t named arguments [] = Unit {0}
+GiveExtents t named arguments (x ∷ xs) =
+    GivesExtent t named arguments (argument_len 0 arguments) x × GiveExtents t named (drop (argument_len 0 arguments) arguments) xs
 
--- the number of the attribute with this name, if it is there
-abbrev pub IsSaid : Name → List Attribute → Option ℕ → Type 0
-IsSaid n attributes = IsNumberOf (last_said (argument_if n) attributes)
+-- what arguments give is there exactly if they are
+abbrev pub IsGivenBy : {A : Type 0} → (List Event → A → Type 0) → Option (List Event) → Option A → Type 0
+IsGivenBy Gives (Some arguments) (Some a) = Gives arguments a
+IsGivenBy Gives None None = Unit {0}
+IsGivenBy Gives arguments a = ⊥
+
+-- what the attribute with this name gives, if it is there
+abbrev pub IsSaid : {A : Type 0} → (List Event → A → Type 0) → Name → List Attribute → Option A → Type 0
+IsSaid Gives n attributes = IsGivenBy Gives (last_said (arguments_if n) attributes)
 
 -- what attributes say
-pub record Say (attributes : List Attribute) (a : Attributes) : Type 0 where
-  pub size : IsSaid name.Size attributes a.size
-  pub align : IsSaid name.Align attributes a.align
-  pub group : IsSaid name.Group attributes a.group
-  pub binding : IsSaid name.Binding attributes a.binding
-  pub id : IsSaid name.Id attributes a.id
+pub record Say (t : Text) (named : List ℕ → Option Meaning) (attributes : List Attribute) (a : Attributes) : Type 0 where
+  pub size : IsSaid (GivesNumber t named) name.Size attributes a.size
+  pub align : IsSaid (GivesNumber t named) name.Align attributes a.align
+  pub group : IsSaid (GivesNumber t named) name.Group attributes a.group
+  pub binding : IsSaid (GivesNumber t named) name.Binding attributes a.binding
+  pub id : IsSaid (GivesNumber t named) name.Id attributes a.id
+  pub workgroup_size : IsSaid (GiveExtents t named) name.WorkgroupSize attributes a.workgroup_size
   pub stage_said : last_said stage_by attributes ≡ a.stage
 
-pub record AreRead (t : Text) (events : List Event) (a : Attributes) : Type 0 where
+pub record AreRead (t : Text) (named : List ℕ → Option Meaning) (events : List Event) (a : Attributes) : Type 0 where
   pub attributes : List Attribute
   pub there : InFront t events attributes
-  pub say : Say attributes a
+  pub say : Say t named attributes a

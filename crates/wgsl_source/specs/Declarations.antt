@@ -1,5 +1,5 @@
 -- The parts of a declaration, by the events of the grammar: its name, its attributes, and what ends each part.
-use Rattle.std.specs.Prelude.{◌≡◌, ◌≢◌, ℕ, zero, suc, ◌-◌, List, [], ◌∷◌, Bool, true, false, Option, Some, None, cond, drop, length, nat_eq, slice_get, slice_index_or, take}
+use Rattle.std.specs.Prelude.{◌≡◌, ◌≢◌, ℕ, zero, suc, ◌-◌, List, [], ◌∷◌, Bool, true, false, ◌&&◌, Option, Some, None, cond, drop, length, nat_eq, slice_get, slice_index_or, take}
 use denote.Enum.Bare.{sameb}
 use Rattle.wgsl_reader.specs.declared.kind.Kind.{Kind}
 use Rattle.wgsl_reader.specs.declared.kind.Kind.TheVariants as k
@@ -81,6 +81,10 @@ inner (event ∷ events) = without_last events
 abbrev pub declared_type : List Event → List Event
 declared_type events = without_last (take (len_to e.Typed events) events)
 
+-- the events of the value of a constant, behind its type
+abbrev pub initializer : List Event → List Event
+initializer events = drop (len_to e.Typed events) events
+
 -- Attributes
 
 abbrev pub is_diagnostic_mark : Mark → Bool
@@ -110,6 +114,21 @@ attribute_len (event ∷ events) = attribute_by event.mark (event ∷ events)
 pub data BehindAttributes : List Event → List Event → Type 0 where
   no_attribute : {events : List Event} → attribute_len events ≡ 0 → BehindAttributes events events
   one_attribute : {events rest : List Event} → attribute_len events ≢ 0 → BehindAttributes (drop (attribute_len events) events) rest → BehindAttributes events rest
+
+-- how many calls are open behind an event
+abbrev pub calls_behind : ℕ → Mark → ℕ
+calls_behind n m.Open = suc n
+calls_behind n m.Call = n - 1
+calls_behind n other = n
+
+abbrev pub is_argument : Mark → Bool
+is_argument m.Argument = true
+is_argument other = false
+
+-- how many events the argument in front has, with its end; none if there is none
+abbrev pub argument_len : ℕ → List Event → ℕ
+argument_len n [] = 0
+argument_len n (event ∷ events) = cond (nat_eq n 0 && is_argument event.mark) 1 (behind_one (argument_len (calls_behind n event.mark) events))
 
 -- Template lists
 

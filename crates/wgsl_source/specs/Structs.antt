@@ -5,7 +5,7 @@ use Rattle.wgsl_reader.specs.declared.read.Event.{Event}
 use Rattle.wgsl_source.specs.TextStructs.{IsDeclared}
 use Rattle.wgsl_source.specs.Layout.{IsLaidOut}
 use Rattle.wgsl_source.specs.Members.{AreMeasured, EndsRuntimeSized, Grows, IsTypeOf}
-use Rattle.wgsl_source.specs.WrittenTypes.{environment}
+use Rattle.wgsl_source.specs.WrittenTypes.{Environment, environment}
 use Rattle.wgsl_source.specs.internal.Read.{IsFrom, Stays}
 use Rattle.wgsl_source.specs.declared.declaration.Declaration.{Declaration}
 use Rattle.wgsl_source.specs.declared.measured.MeasuredType.{MeasuredType}
@@ -27,9 +27,9 @@ abbrev pub AreStructsOf : List MeasuredType → List Struct → Type 0
 AreStructsOf elements structs = All (IsStructOf elements) structs
 
 -- the struct of a declaration is read and kept behind those that are there, and its type has its index
-pub record IsKept (t : Text) (d : Declaration) (old new : List Struct) (m : Meaning) : Type 0 where
+pub record IsKept (t : Text) (env : Environment) (d : Declaration) (old new : List Struct) (m : Meaning) : Type 0 where
   pub struct : Struct
-  pub from : IsFrom t d struct
+  pub from : IsFrom t env d struct
   pub kept : new ≡ old ++ struct ∷ []
   pub type : MeasuredType
   pub named : m ≡ meaning.«Type» type

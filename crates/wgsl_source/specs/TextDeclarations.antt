@@ -2,7 +2,7 @@
 use Rattle.std.specs.Prelude.{◌≡◌, ◌≢◌, ℕ, List, [], ◌∷◌, Option, Some, None, take}
 use Rattle.wgsl_reader.specs.declared.read.Event.{Event}
 use Rattle.wgsl_spelling.specs.Words.{word}
-use Rattle.wgsl_source.specs.Attributes.{Attribute, InFront, IsSaid, last_said, stage_by}
+use Rattle.wgsl_source.specs.Attributes.{Attribute, GiveExtents, GivesNumber, InFront, IsSaid, last_said, stage_by}
 use Rattle.wgsl_source.specs.Declarations.{AreSites, Site, declaration_len, declared_type, end_at, first_count, inner, list_len, token_before}
 use Rattle.wgsl_source.specs.Qualifiers.{IsQualified}
 use Rattle.wgsl_source.specs.WrittenTypes.{Environment, HasType}
@@ -15,6 +15,7 @@ use Rattle.wgsl_source.specs.declared.module.Module.{Module}
 use Rattle.wgsl_source.specs.declared.others.Alias.{Alias}
 use Rattle.wgsl_source.specs.declared.parts.End.{End}
 use Rattle.wgsl_source.specs.declared.parts.End.TheVariants as e
+use Rattle.wgsl_source.specs.declared.scope.Meaning.{Meaning}
 use Rattle.wgsl_source.specs.declared.text.Text.{Text}
 use Rattle.wgsl_source.specs.declared.variable.Variable.{Variable}
 
@@ -57,20 +58,21 @@ pub record Stands (t : Text) (d : Declared) (text : List ℕ) (at : ℕ) : Type 
 -- `@group(0) @binding(1) var<storage> lights: array<Light>;`
 pub record IsVariable (t : Text) (env : Environment) (d : Declared) (v : Variable) : Type 0 where
   pub stands : Stands t d v.name.now v.place
-  pub group : IsSaid name.Group stands.attributes v.group
-  pub binding : IsSaid name.Binding stands.attributes v.binding
+  pub group : IsSaid (GivesNumber t env.named) name.Group stands.attributes v.group
+  pub binding : IsSaid (GivesNumber t env.named) name.Binding stands.attributes v.binding
   pub qualified : IsQualified t d.list v.space v.access
   pub written : HasType t env (declared_type d.rest) v.ty
 
 -- `@id(7) override width: u32 = 4;`
-pub record IsOverride (t : Text) (d : Declared) (o : Override) : Type 0 where
+pub record IsOverride (t : Text) (named : List ℕ → Option Meaning) (d : Declared) (o : Override) : Type 0 where
   pub stands : Stands t d o.name.now o.place
-  pub id : IsSaid name.Id stands.attributes o.id
+  pub id : IsSaid (GivesNumber t named) name.Id stands.attributes o.id
 
 -- `@compute @workgroup_size(64) fn main() {}`
-pub record IsEntryPoint (t : Text) (d : Declared) (f : EntryPoint) : Type 0 where
+pub record IsEntryPoint (t : Text) (named : List ℕ → Option Meaning) (d : Declared) (f : EntryPoint) : Type 0 where
   pub stands : Stands t d f.name.now f.place
   pub stage : last_said stage_by stands.attributes ≡ Some f.stage
+  pub workgroup_size : IsSaid (GiveExtents t named) name.WorkgroupSize stands.attributes f.workgroup_size
 
 -- `fn lit() {}`
 pub record HasNoStage (t : Text) (d : Declared) : Type 0 where
@@ -92,11 +94,11 @@ pub record Sort (A : Type 0) : Type 1 where
 abbrev pub of_variables : Text → Environment → Sort Variable
 of_variables t env = record { kind = kinds.Variable; Is = IsVariable t env; IsNone = λ d. declared_type d.rest ≡ [] }
 
-abbrev pub of_overrides : Text → Sort Override
-of_overrides t = record { kind = kinds.Override; Is = IsOverride t; IsNone = λ d. ⊥ }
+abbrev pub of_overrides : Text → (List ℕ → Option Meaning) → Sort Override
+of_overrides t named = record { kind = kinds.Override; Is = IsOverride t named; IsNone = λ d. ⊥ }
 
-abbrev pub of_entry_points : Text → Sort EntryPoint
-of_entry_points t = record { kind = kinds.Function; Is = IsEntryPoint t; IsNone = HasNoStage t }
+abbrev pub of_entry_points : Text → (List ℕ → Option Meaning) → Sort EntryPoint
+of_entry_points t named = record { kind = kinds.Function; Is = IsEntryPoint t named; IsNone = HasNoStage t }
 
 abbrev pub of_aliases : Text → Environment → Sort Alias
 of_aliases t env = record { kind = kinds.Alias; Is = IsAlias t env; IsNone = λ d. ⊥ }
@@ -126,6 +128,6 @@ pub record AreAllDeclared {A : Type 0} (sort : Sort A) (t : Text) (whole : List 
 -- the variables, overrides, entry points and aliases of a module are those that the events declare
 pub record HasDeclared (t : Text) (env : Environment) (whole : List Event) (m : Module) : Type 0 where
   pub variables : AreAllDeclared (of_variables t env) t whole (m.faults.items ≢ []) m.variables.items
-  pub overrides : AreAllDeclared (of_overrides t) t whole (m.faults.items ≢ []) m.overrides.items
-  pub entry_points : AreAllDeclared (of_entry_points t) t whole (m.faults.items ≢ []) m.entry_points.items
+  pub overrides : AreAllDeclared (of_overrides t env.named) t whole (m.faults.items ≢ []) m.overrides.items
+  pub entry_points : AreAllDeclared (of_entry_points t env.named) t whole (m.faults.items ≢ []) m.entry_points.items
   pub aliases : AreAllDeclared (of_aliases t env) t whole (m.faults.items ≢ []) m.aliases.items

@@ -1,174 +1,106 @@
--- The type that is written at a member, a variable or an alias, by the events of the grammar (WGSL, "Types", "Template Lists").
-use Rattle.std.specs.Prelude.{◌≡◌, ℕ, pos, List, [], ◌∷◌, ◌++◌, Option, Some, None, slice_get}
-use Rattle.wgsl_constants.specs.Conversions.{number}
-use Rattle.wgsl_constants.specs.declared.constant.Constant.TheVariants as constant
+-- The types and the values that are written in a module, by the events of the grammar (WGSL, "Types", "Expressions").
+use Rattle.std.specs.Prelude.{◌≡◌, ◌≢◌, ℕ, List, [], ◌∷◌, ◌++◌, Option, Some, None}
+use Rattle.std.specs.List.{All}
+use Rattle.wgsl_reader.specs.declared.kind.Kind.{Kind}
 use Rattle.wgsl_reader.specs.declared.kind.Kind.TheVariants as k
 use Rattle.wgsl_reader.specs.declared.mark.Mark.{Mark}
 use Rattle.wgsl_reader.specs.declared.mark.Mark.TheVariants as m
 use Rattle.wgsl_reader.specs.declared.read.Event.{Event}
 use Rattle.wgsl_reader.specs.declared.token.Token.{Token}
-use Rattle.wgsl_rules.specs.types.Types.{atomic, mat, scalar, vec}
-use Rattle.wgsl_spelling.specs.Predeclared.{predeclared}
 use Rattle.wgsl_spelling.specs.Words.{word}
-use Rattle.wgsl_spelling.specs.declared.predeclared.LayerName.{LayerName}
-use Rattle.wgsl_spelling.specs.declared.predeclared.LayerName.TheVariants as layer
-use Rattle.wgsl_spelling.specs.declared.predeclared.PredeclaredType.{PredeclaredType}
-use Rattle.wgsl_spelling.specs.declared.predeclared.PredeclaredType.TheVariants as p
-use Rattle.wgsl_syntax.specs.declared.address.AccessMode.{AccessMode}
-use Rattle.wgsl_syntax.specs.declared.address.AddressSpace.{AddressSpace}
-use Rattle.wgsl_syntax.specs.declared.scalar.Scalar.{Scalar}
-use Rattle.wgsl_source.specs.Attributes.{IsArgument}
-use Rattle.wgsl_source.specs.Declarations.{token_before}
-use Rattle.wgsl_source.specs.Measures.{IsArrayAmong, IsMeasureOf}
+pub use Rattle.wgsl_source.specs.Calls.{IsCalled}
+use Rattle.wgsl_source.specs.Declarations.{declared_type, initializer, token_before}
 pub use Rattle.wgsl_source.specs.NamedTypes.{Environment, IsLeaf, IsResource, StandsFor, environment, index_of, meaning_of}
+pub use Rattle.wgsl_source.specs.TemplateLists.{AreElements, IsAround, IsCount, IsLayered, IsListed, IsListedBy, IsPointer, IsTypeSaid, IsValueSaid, item}
+use Rattle.wgsl_source.specs.Values.{IsLiteral, binary, element, in_type, member, unary}
 use Rattle.wgsl_source.specs.declared.item.Content.{Content}
 use Rattle.wgsl_source.specs.declared.item.Content.TheVariants as content
 use Rattle.wgsl_source.specs.declared.item.Item.{Item}
-use Rattle.wgsl_source.specs.declared.measured.Count.{Count}
-use Rattle.wgsl_source.specs.declared.measured.Count.TheVariants as count
 use Rattle.wgsl_source.specs.declared.measured.MeasuredType.{MeasuredType}
-use Rattle.wgsl_source.specs.declared.measured.TypeKind.TheVariants as kind
 use Rattle.wgsl_source.specs.declared.scope.Meaning.{Meaning}
-use Rattle.wgsl_source.specs.declared.scope.Meaning.TheVariants as meaning
 use Rattle.wgsl_source.specs.declared.text.Text.{Text}
 use Rattle.wgsl_source.specs.declared.value.Value.{Value}
-use Rattle.wgsl_source.specs.declared.value.Value.TheVariants as value
-use Rattle.wgsl_source.specs.internal.Items.{HasAccess, NamesSpace}
 
--- Items: what is read of a type or a value, and isn't yet part of a larger one
+abbrev pub IsNoSign : Kind → Item → Type 0
+IsNoSign sign item = item.content ≢ content.Sign sign
 
-abbrev pub item : Token → Content → Item
-item token content = record { token = token; content = content }
-
--- the type that an item is: that of a name, or of a name with its list
-abbrev pub IsTypeSaid : Text → (List ℕ → Option Meaning) → Token → Content → MeasuredType → Type 0
-IsTypeSaid t named token content.Name ty = StandsFor (word t.text.now token) (named (word t.text.now token)) ty
-IsTypeSaid t named token (content.«Type» listed) ty = ty ≡ listed
-IsTypeSaid t named token other ty = ⊥
-
--- the value that an item is: that of a constant or an override, of a literal, or of another expression
-abbrev pub IsValueSaid : Text → (List ℕ → Option Meaning) → Token → Content → Value → Type 0
-IsValueSaid t named token content.Name v = named (word t.text.now token) ≡ Some (meaning.Value v)
-IsValueSaid t named token (content.Value known) v = v ≡ known
-IsValueSaid t named token other v = ⊥
-
--- the number of elements that a value is
-abbrev pub IsCountOf : Value → Count → Type 0
-IsCountOf (value.Known (constant.Integer i)) (count.Known n) = number i ≡ pos n
-IsCountOf value.Later c = c ≡ count.Override
-IsCountOf v c = ⊥
-
--- Template lists
-
--- behind an element's type: nothing, or the number of elements
-abbrev pub IsCount : Text → (List ℕ → Option Meaning) → List Item → Count → Type 0
-IsCount t named [] c = c ≡ count.Runtime
-IsCount t named (x ∷ []) c = (v : Value) × IsValueSaid t named x.token x.content v × IsCountOf v c
-IsCount t named more c = ⊥
-
--- `f32, 4` in `array<f32, 4>`
-abbrev pub AreElements : Text → (List ℕ → Option Meaning) → List Item → MeasuredType → Count → Type 0
-AreElements t named [] element c = ⊥
-AreElements t named (x ∷ rest) element c = IsTypeSaid t named x.token x.content element × IsCount t named rest c
-
--- a vector, a matrix or an atomic of a scalar: `vec3<f32>`, `mat4x3<f32>`, `atomic<u32>`
-abbrev pub IsOfScalar : LayerName → Scalar → MeasuredType → Type 0
-IsOfScalar (layer.Vec n) s t = (t.kind ≡ kind.Vector n s) × IsMeasureOf (vec n (scalar s)) t
-IsOfScalar (layer.Mat c r) s t = (t.kind ≡ kind.Matrix c r s) × IsMeasureOf (mat c r (scalar s)) t
-IsOfScalar layer.Atomic s t = (t.kind ≡ kind.Atomic s) × IsMeasureOf (atomic (scalar s)) t
-IsOfScalar other s t = ⊥
-
-abbrev pub HasScalar : LayerName → MeasuredType → MeasuredType → Type 0
-HasScalar l inside t = (s : Scalar) × (inside.kind ≡ kind.Scalar s) × IsOfScalar l s t
-
-abbrev pub IsAround : Text → (List ℕ → Option Meaning) → LayerName → List Item → MeasuredType → Type 0
-IsAround t named l (x ∷ []) ty = (inside : MeasuredType) × IsTypeSaid t named x.token x.content inside × HasScalar l inside ty
-IsAround t named l items ty = ⊥
-
--- `array<Light, 4>`: the element's type is among those of the module at the array's index
-pub record IsArray (t : Text) (e : Environment) (items : List Item) (ty : MeasuredType) : Type 0 where
-  pub element : MeasuredType
-  pub count : Count
-  pub said : AreElements t e.named items element count
-  pub is : IsArrayAmong e.elements element count ty
-
--- `binding_array<texture_2d<f32>, 4>`
-pub record IsBindingArray (t : Text) (e : Environment) (items : List Item) (ty : MeasuredType) : Type 0 where
-  pub element : MeasuredType
-  pub count : Count
-  pub said : AreElements t e.named items element count
-  pub index : ℕ
-  pub is : IsResource (kind.BindingArray index count) ty
-  pub there : slice_get e.elements index ≡ Some element
-
--- `ptr<storage, Light, read>`
-pub record PointsTo (t : Text) (e : Environment) (s x : Item) (rest : List Item) (ty : MeasuredType) : Type 0 where
-  pub space : AddressSpace
-  pub access : AccessMode
-  pub inside : MeasuredType
-  pub index : ℕ
-  pub names : NamesSpace t s space
-  pub said : IsTypeSaid t e.named x.token x.content inside
-  pub accessed : HasAccess t space rest access
-  pub is : IsResource (kind.Pointer space index access) ty
-  pub there : slice_get e.elements index ≡ Some inside
-
-abbrev pub IsPointer : Text → Environment → List Item → MeasuredType → Type 0
-IsPointer t e (s ∷ x ∷ rest) ty = PointsTo t e s x rest ty
-IsPointer t e items ty = ⊥
-
-abbrev pub IsLayered : Text → Environment → LayerName → List Item → MeasuredType → Type 0
-IsLayered t e layer.Array items ty = IsArray t e items ty
-IsLayered t e layer.BindingArray items ty = IsBindingArray t e items ty
-IsLayered t e layer.Pointer items ty = IsPointer t e items ty
-IsLayered t e l items ty = IsAround t e.named l items ty
-
--- A predeclared name with a list stands for this type. Of textures, ray queries and acceleration structures nothing is said.
-abbrev pub IsListed : Text → Environment → PredeclaredType → List Item → MeasuredType → Type 0
-IsListed t e (p.Layer l) items ty = IsLayered t e l items ty
-IsListed t e named items ty = Unit {0}
-
--- a name with a list: a type, if the module doesn't declare the name, or what is called
-abbrev pub IsListedBy : Text → Environment → List ℕ → List Item → Content → Type 0
-IsListedBy t e name items (content.«Type» ty) = (e.named name ≡ None) × (named : PredeclaredType) × (predeclared name ≡ Some named) × IsListed t e named items ty
-IsListedBy t e name items (content.Bitcast s) = Unit {0}
-IsListedBy t e name items content.Function = Unit {0}
-IsListedBy t e name items other = ⊥
-
--- `vec3<f32>`: one item stands in place of a name, `<` and the items behind it
-pub record ClosesList (t : Text) (e : Environment) (items new : List Item) : Type 0 where
+-- `vec3<f32>`, `max(n, 4)`: one item stands in place of a name, the last such sign, and the items behind it
+pub record Closes (sign : Kind) (Is : Item → List Item → Content → Type 0) (items new : List Item) : Type 0 where
   pub front : List Item
   pub name : Item
-  pub sign : Item
+  pub opening : Item
   pub listed : List Item
-  pub there : items ≡ front ++ name ∷ sign ∷ listed
-  pub opens : sign.content ≡ content.Sign k.OpenTemplate
+  pub there : items ≡ front ++ name ∷ opening ∷ listed
+  pub opens : opening.content ≡ content.Sign sign
+  pub last : All (IsNoSign sign) listed
   pub content : Content
-  pub is : IsListedBy t e (word t.text.now name.token) listed content
+  pub is : Is name listed content
   pub replaced : new ≡ front ++ item name.token content ∷ []
 
--- Expressions
+abbrev pub IsValueCalled : Text → (List ℕ → Option Meaning) → Item → List Item → Content → Type 0
+IsValueCalled t named name items (content.Value v) = IsCalled t named name items v
+IsValueCalled t named name items other = ⊥
 
--- `2 * n`, `max(n, 4)`: a value stands in place of the last items. Which one it is isn't said.
-pub record BecomesValue (items new : List Item) : Type 0 where
+-- a value stands in place of the last items, which make it
+pub record BecomesValue (Is : List Item → Value → Type 0) (items new : List Item) : Type 0 where
   pub front : List Item
   pub taken : List Item
   pub there : items ≡ front ++ taken
   pub token : Token
   pub value : Value
+  pub is : Is taken value
   pub replaced : new ≡ front ++ item token (content.Value value) ∷ []
+
+-- the operator that an item is, or the end
+abbrev pub sign_in : Content → Kind
+sign_in (content.Sign kind) = kind
+sign_in other = k.End
+
+-- `(n)`, or an argument
+abbrev pub IsSettled : Text → (List ℕ → Option Meaning) → List Item → Value → Type 0
+IsSettled t named (x ∷ []) v = IsValueSaid t named x.token x.content v
+IsSettled t named items v = ⊥
+
+-- `-n`
+abbrev pub IsUnary : Text → (List ℕ → Option Meaning) → List Item → Value → Type 0
+IsUnary t named (sign ∷ x ∷ []) v = (a : Value) × IsValueSaid t named x.token x.content a × (unary (sign_in sign.content) a ≡ Some v)
+IsUnary t named items v = ⊥
+
+-- `2 * n`
+abbrev pub IsBinary : Text → (List ℕ → Option Meaning) → List Item → Value → Type 0
+IsBinary t named (x ∷ sign ∷ y ∷ []) v =
+    (a : Value) × (b : Value) × IsValueSaid t named x.token x.content a × IsValueSaid t named y.token y.content b × (binary (sign_in sign.content) a b ≡ Some v)
+IsBinary t named items v = ⊥
+
+-- `vec2(4, 1).x`
+abbrev pub IsMemberOf : Text → (List ℕ → Option Meaning) → Token → List Item → Value → Type 0
+IsMemberOf t named letter (x ∷ []) v = (a : Value) × IsValueSaid t named x.token x.content a × (member (word t.text.now letter) a ≡ Some v)
+IsMemberOf t named letter items v = ⊥
+
+-- `vec2(4, 1)[0]`
+abbrev pub IsElementOf : Text → (List ℕ → Option Meaning) → List Item → Value → Type 0
+IsElementOf t named (x ∷ sign ∷ y ∷ []) v =
+    (a : Value) × (i : Value) × IsValueSaid t named x.token x.content a × IsValueSaid t named y.token y.content i × (element a i ≡ Some v)
+IsElementOf t named items v = ⊥
 
 -- what an event adds to the items in front of it, or makes of them
 abbrev pub Step : Text → Environment → Mark → Token → List Item → List Item → Type 0
 Step t e m.Name token items new = new ≡ items ++ item token content.Name ∷ []
 Step t e m.Value token items new = new ≡ items
-Step t e m.Literal token items new = (v : Value) × IsArgument (Some (word t.text.now token)) v × (new ≡ items ++ item token (content.Value v) ∷ [])
-Step t e m.Template token items new = ClosesList t e items new
+Step t e m.Literal token items new = (v : Value) × IsLiteral t token v × (new ≡ items ++ item token (content.Value v) ∷ [])
 Step t e m.OpenTemplate token items new = new ≡ items ++ item token (content.Sign token.kind) ∷ []
 Step t e m.Operator token items new = new ≡ items ++ item token (content.Sign token.kind) ∷ []
 Step t e m.Open token items new = new ≡ items ++ item token (content.Sign token.kind) ∷ []
 Step t e m.OpenElement token items new = new ≡ items ++ item token (content.Sign token.kind) ∷ []
-Step t e other token items new = BecomesValue items new
+Step t e m.Template token items new = Closes k.OpenTemplate (IsListedBy t e) items new
+Step t e m.Call token items new = Closes k.OpenRound (IsValueCalled t e.named) items new
+Step t e m.Argument token items new = BecomesValue (IsSettled t e.named) items new
+Step t e m.Brackets token items new = BecomesValue (IsSettled t e.named) items new
+Step t e m.Unary token items new = BecomesValue (IsUnary t e.named) items new
+Step t e m.Binary token items new = BecomesValue (IsBinary t e.named) items new
+Step t e m.MemberOf token items new = BecomesValue (IsMemberOf t e.named token) items new
+Step t e m.Element token items new = BecomesValue (IsElementOf t e.named) items new
+Step t e other token items new = ⊥
 
 abbrev pub Steps : Text → Environment → List Event → List Item → List Item → Type 0
 Steps t e [] items new = new ≡ items
@@ -177,3 +109,23 @@ Steps t e (event ∷ events) items new = (next : List Item) × Step t e event.ma
 -- events say this type: they make one item, which is the type
 abbrev pub HasType : Text → Environment → List Event → MeasuredType → Type 0
 HasType t e events ty = (x : Item) × Steps t e events [] (x ∷ []) × IsTypeSaid t e.named x.token x.content ty
+
+-- the type that events say, if there are any
+abbrev pub HasTypeIf : Text → Environment → List Event → Option MeasuredType → Type 0
+HasTypeIf t e events (Some ty) = HasType t e events ty
+HasTypeIf t e events None = events ≡ []
+
+-- events say this value; the types of arrays in it are its own
+pub record HasValue (t : Text) (named : List ℕ → Option Meaning) (events : List Event) (v : Value) : Type 0 where
+  pub elements : List MeasuredType
+  pub x : Item
+  pub made : Steps t (record { named = named; elements = elements }) events [] (x ∷ [])
+  pub said : IsValueSaid t named x.token x.content v
+
+-- the value behind the `=` of a constant, in its type if one is declared
+abbrev pub HasInitial : Text → (List ℕ → Option Meaning) → List Event → Option MeasuredType → Value → Type 0
+HasInitial t named events ty v = (initial : Value) × HasValue t named events initial × (in_type ty initial ≡ Some v)
+
+-- the value of a constant, by the events behind its name: `: u32 = 2 * N`
+abbrev pub HasConstant : Text → Environment → List Event → Value → Type 0
+HasConstant t e events v = (ty : Option MeasuredType) × HasTypeIf t e (declared_type events) ty × HasInitial t e.named (initializer events) ty v

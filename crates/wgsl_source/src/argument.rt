@@ -1,45 +1,27 @@
 // The arguments of attributes.
-ghost use Rattle.std.specs.Prelude.{◌≡◌, IfOk};
-ghost use Rattle.wgsl_source.specs.Attributes.{IsArgument, IsValueOf, is_literal, literal_in, literal_token};
+ghost use Rattle.std.specs.Prelude.{◌≡◌, IfOk, drop};
+ghost use Rattle.wgsl_source.specs.Attributes.{GiveExtents, GivesExtent, GivesNumber, IsExtent};
+ghost use Rattle.wgsl_source.specs.Declarations.{argument_len};
+ghost use Rattle.wgsl_source.specs.WrittenTypes.{meaning_of};
 
 use crate::entry::WorkgroupExtent;
 use crate::fault::{Cause, Stop};
 use crate::meant::is_built_in_value;
 use crate::parts::{split_argument, split_first, without_last};
 use crate::scope::Scope;
-use crate::text::Text;
-use crate::value::{PlacedValue, Value};
+use crate::value::Value;
 use wgsl_constants::call::integer;
 use wgsl_constants::constant::Constant;
 use wgsl_constants::integer::Integer;
-use wgsl_reader::mark::Mark;
 use wgsl_reader::read::Event;
-use wgsl_reader::token::Token;
 
 impl<'t> Scope<'t> {
-    /// The value of an argument.
-    fn read_value(&self, arguments: &[Event]) -> Result<PlacedValue, Stop>
-        ensures { IfOk result (λ v. IsArgument (literal_in self.now.text arguments.now) v.value) }
-    {
-        if let Some(token) = literal_token(self.text, arguments) {
-            let value = self.literal(token)?;
-            return Ok(PlacedValue {
-                value,
-                at: token.at,
-            });
-        }
-        match split_argument(arguments) {
-            Some(split) => self.value_noted(without_last(split.front)),
-            None => self.value_noted(arguments),
-        }
-    }
-
-    /// The number that an argument gives.
+    /// The number that an argument gives, which ends with its `Argument`.
     #[tactic(auto, using(crate::proofs::Attributes::number_said))]
-    pub fn read_number(&self, arguments: &[Event]) -> Result<u32, Stop>
-        ensures { IfOk result (IsValueOf (literal_in self.now.text arguments.now)) }
+    pub fn read_number(&self, argument: &[Event]) -> Result<u32, Stop>
+        ensures { IfOk result (GivesNumber self.now.text (meaning_of self.now) argument.now) }
     {
-        let value = self.read_value(arguments)?;
+        let value = self.value_noted(without_last(argument))?;
         match integer_of(value.value) {
             Ok(integer) => match u32::try_from(integer.value()) {
                 Ok(number) => Ok(number),
@@ -50,14 +32,14 @@ impl<'t> Scope<'t> {
     }
 
     /// The number that an argument gives, if it is a power of two.
-    pub fn read_align(&self, arguments: &[Event]) -> Result<u32, Stop>
-        ensures { IfOk result (IsValueOf (literal_in self.now.text arguments.now)) }
+    pub fn read_align(&self, argument: &[Event]) -> Result<u32, Stop>
+        ensures { IfOk result (GivesNumber self.now.text (meaning_of self.now) argument.now) }
     {
-        let align = self.read_number(arguments)?;
+        let align = self.read_number(argument)?;
         if align.is_power_of_two() {
             Ok(align)
         } else {
-            let at = self.read_value(arguments)?.at;
+            let at = self.value_noted(without_last(argument))?.at;
             Err(Stop::at(at, Cause::AlignNotPower))
         }
     }
@@ -76,19 +58,33 @@ impl<'t> Scope<'t> {
     }
 
     /// Reads the one to three extents of a workgroup; a missing one is 1.
-    pub fn read_workgroup_size(&self, arguments: &[Event]) -> Result<[WorkgroupExtent; 3], Stop> {
-        let mut extents = [WorkgroupExtent::Known(1); 3];
-        let mut rest = arguments;
-        for extent in &mut extents {
-            if let Some(split) = split_argument(rest) {
-                *extent = self.read_extent(split.front)?;
-                rest = split.rest;
-            }
-        }
-        Ok(extents)
+    pub fn read_workgroup_size(&self, arguments: &[Event]) -> Result<[WorkgroupExtent; 3], Stop>
+        ensures { IfOk result (GiveExtents self.now.text (meaning_of self.now) arguments.now) }
+    {
+        let (x, behind) = self.next_extent(arguments)?;
+        let (y, behind) = self.next_extent(behind)?;
+        let (z, _) = self.next_extent(behind)?;
+        Ok([x, y, z])
     }
 
-    fn read_extent(&self, argument: &[Event]) -> Result<WorkgroupExtent, Stop> {
+    /// The extent that the argument in front gives, and the arguments behind it.
+    fn next_extent<'e>(
+        &self,
+        arguments: &'e [Event],
+    ) -> Result<(WorkgroupExtent, &'e [Event]), Stop>
+        ensures extent { IfOk result (λ r. GivesExtent self.now.text (meaning_of self.now) arguments.now (argument_len 0 arguments.now) r.0) }
+        ensures behind { IfOk result (λ r. r.1.now ≡ drop (argument_len 0 arguments.now) arguments.now) }
+    {
+        match split_argument(arguments) {
+            Some(split) => Ok((self.read_extent(split.front)?, split.rest)),
+            None => Ok((WorkgroupExtent::Known(1), arguments)),
+        }
+    }
+
+    #[tactic(auto, using(crate::proofs::Attributes::number_said))]
+    fn read_extent(&self, argument: &[Event]) -> Result<WorkgroupExtent, Stop>
+        ensures { IfOk result (IsExtent self.now.text (meaning_of self.now) argument.now) }
+    {
         let value = self.value_noted(without_last(argument))?;
         if let Value::Later = value.value {
             return Ok(WorkgroupExtent::Override);
@@ -100,31 +96,6 @@ impl<'t> Scope<'t> {
             },
             Err(cause) => Err(Stop::at(value.at, cause)),
         }
-    }
-}
-
-/// The argument, if it is one literal.
-fn literal_token(text: Text, arguments: &[Event]) -> Option<Token>
-    ensures { result ≡ literal_token text.entry arguments.now }
-{
-    match arguments {
-        [literal, end] => {
-            if is_literal(literal.mark, end.mark) {
-                Some(text.token_before(literal.at))
-            } else {
-                None
-            }
-        }
-        _ => None,
-    }
-}
-
-fn is_literal(first: Mark, end: Mark) -> bool
-    ensures { result ≡ is_literal first end }
-{
-    match first {
-        Mark::Literal => matches!(end, Mark::Argument),
-        _ => false,
     }
 }
 

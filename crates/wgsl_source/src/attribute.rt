@@ -1,9 +1,12 @@
 // Attributes, and where each may stand (WGSL, "Attributes").
 
-ghost use Rattle.std.specs.Prelude.{◌≡◌, [], IfOk, OnOk, Some};
+ghost use Rattle.std.specs.Prelude.{◌≡◌, ℕ, List, [], IfOk, OnOk, Option, Some};
 ghost use Rattle.wgsl_syntax.specs.Names.{named};
-ghost use Rattle.wgsl_source.specs.Attributes.{AreRead, Say, attribute_names, attribute_of, is_severity, literal_in};
+ghost use Rattle.wgsl_source.specs.Attributes.{AreRead, Say, attribute_names, attribute_of, is_severity};
 ghost use Rattle.wgsl_source.specs.Declarations.{BehindAttributes};
+ghost use Rattle.wgsl_source.specs.WrittenTypes.{meaning_of};
+ghost use Rattle.wgsl_source.specs.declared.scope.Meaning.{Meaning as of_meaning};
+ghost use Rattle.wgsl_source.specs.declared.text.Text.{Text as of_text};
 ghost use Rattle.wgsl_source.specs.internal.Others.{Adds, SameValues};
 
 use crate::directive::severity_fault;
@@ -129,7 +132,7 @@ impl Name {
 
 impl Attributes {
     fn none() -> Attributes
-        ensures { Say [] result }
+        ensures { (t : of_text) → (named : List ℕ → Option of_meaning) → Say t named [] result }
     {
         Attributes {
             size: None,
@@ -175,7 +178,7 @@ impl<'t> Scope<'t> {
         owner: Owner,
     ) -> Result<(Attributes, &'e [Event]), Stop>
         ensures behind { IfOk result (λ r. BehindAttributes events.now r.1.now) }
-        ensures read { IfOk result (λ r. AreRead self.now.text events.now r.0) }
+        ensures read { IfOk result (λ r. AreRead self.now.text (meaning_of self.now) events.now r.0) }
     {
         let mut attributes = Attributes::none();
         let mut rest = events;
@@ -192,7 +195,7 @@ impl<'t> Scope<'t> {
         owner: Owner,
         attributes: &mut Attributes,
     ) -> Result<(), Stop>
-        ensures { OnOk result (Adds (attribute_of self.now.text events.now) attributes.old attributes.new) }
+        ensures { OnOk result (Adds self.now.text (meaning_of self.now) (attribute_of self.now.text events.now) attributes.old attributes.new) }
     {
         let Some((first, rest)) = split_first(events) else {
             return Ok(());
@@ -243,7 +246,7 @@ impl<'t> Scope<'t> {
         arguments: &[Event],
         attributes: &mut Attributes,
     ) -> Result<(), Stop>
-        ensures { OnOk result (Adds (record { name = Some name; literal = literal_in self.now.text arguments.now }) attributes.old attributes.new) }
+        ensures { OnOk result (Adds self.now.text (meaning_of self.now) (record { name = Some name; arguments = arguments.now }) attributes.old attributes.new) }
     {
         match name {
             Name::Align => attributes.align = Some(self.read_align(arguments)?),

@@ -1,14 +1,21 @@
 // Calls whose values are known when a module is read.
+ghost use Rattle.std.specs.Prelude.{◌≡◌, IfOk, IfSome, Some};
+ghost use Rattle.wgsl_constants.specs.Calls.{with_argument};
+ghost use Rattle.wgsl_source.specs.Calls.{IsCalled, IsCallOf, bitcast, callee_by, callee_of, called_with, component_in, constructor, conversion, dot_value, predeclared_callee, vector, with_component, with_components, with_content, with_vector};
+ghost use Rattle.wgsl_source.specs.Values.{components};
+ghost use Rattle.wgsl_source.specs.WrittenTypes.{meaning_of};
+ghost use Rattle.wgsl_spelling.specs.Words.{word};
 
 use crate::fault::{Cause, Named, Stop};
 use crate::item::{Content, Item};
 use crate::meant::is_function;
 use crate::measured::{MeasuredType, TypeKind};
 use crate::scope::{Meaning, Scope};
-use crate::value::Value;
+use crate::value::{Value, vector_in};
 use wgsl_constants::call::{Arguments, Function};
 use wgsl_constants::constant::Constant;
-use wgsl_constants::vector::{COMPONENTS, Size, Vector, zero_of};
+use wgsl_constants::integer::Integer;
+use wgsl_constants::vector::{Component, Size, Vector};
 use wgsl_spelling::predeclared::{PredeclaredType, predeclared};
 use wgsl_syntax::scalar::Scalar;
 
@@ -23,7 +30,9 @@ enum Callee {
 
 impl<'t> Scope<'t> {
     /// The value of a call, or why there is none.
-    pub fn called(&self, name: Item, arguments: &[Item]) -> Result<Value, Stop> {
+    pub fn called(&self, name: Item, arguments: &[Item]) -> Result<Value, Stop>
+        ensures { IfOk result (IsCalled self.now.text (meaning_of self.now) name arguments.now) }
+    {
         let callee = match self.callee_of(name)? {
             Some(callee) => callee,
             None => return Err(name.stop(Cause::NotInteger)),
@@ -35,7 +44,9 @@ impl<'t> Scope<'t> {
     }
 
     /// What is called, if it is evaluated here.
-    fn callee_of(&self, name: Item) -> Result<Option<Callee>, Stop> {
+    fn callee_of(&self, name: Item) -> Result<Option<Callee>, Stop>
+        ensures { IfOk result (λ found. IfSome found (λ callee. callee_of self.now.text (meaning_of self.now) name.token name.content ≡ Some callee)) }
+    {
         match name.content {
             Content::Type(ty) => Ok(constructor(ty)),
             Content::Name => match self.meaning(self.text.word(name.token)) {
@@ -51,15 +62,16 @@ impl<'t> Scope<'t> {
     }
 
     /// What is called by a predeclared name; None if it isn't evaluated here.
-    fn predeclared_callee(&self, name: Item) -> Result<Option<Callee>, Stop> {
+    fn predeclared_callee(&self, name: Item) -> Result<Option<Callee>, Stop>
+        ensures { IfOk result (λ found. IfSome found (λ callee. predeclared_callee (word self.now.text.text.now name.token) ≡ Some callee)) }
+    {
         let word = self.text.word(name.token);
-        match (Function::named(word), predeclared(word)) {
-            (Some(Function::F16), _) if !self.extensions.half => Err(name.stop(Cause::NoHalf)),
-            (Some(function), _) => Ok(Some(Callee::Function(function))),
-            (None, None) if word == "dot" => Ok(Some(Callee::Dot)),
-            (None, Some(PredeclaredType::Vec(n, scalar))) => Ok(vector(n, Some(scalar))),
-            (None, Some(_)) => Ok(Size::named(word).map(|size| Callee::Vector(size, None))),
-            (None, None) => {
+        match callee_by(word, Function::named(word), predeclared(word)) {
+            Some(Callee::Function(Function::F16)) if !self.extensions.half => {
+                Err(name.stop(Cause::NoHalf))
+            }
+            Some(callee) => Ok(Some(callee)),
+            None => {
                 self.check_function(name)?;
                 Ok(None)
             }
@@ -77,26 +89,61 @@ impl<'t> Scope<'t> {
     }
 }
 
+/// What is called by a name that the module doesn't declare, if it is that of a function or a type; None if it isn't evaluated here.
+fn callee_by(name: &str, function: Option<Function>, ty: Option<PredeclaredType>) -> Option<Callee>
+    ensures { result ≡ callee_by name.now function ty }
+{
+    match function {
+        Some(function) => Some(Callee::Function(function)),
+        None => constructor_by(name, ty),
+    }
+}
+
+fn constructor_by(name: &str, ty: Option<PredeclaredType>) -> Option<Callee>
+    ensures { result ≡ callee_by name.now None ty }
+{
+    match ty {
+        Some(PredeclaredType::Vec(n, scalar)) => vector(n, scalar),
+        Some(
+            PredeclaredType::Scalar(_)
+            | PredeclaredType::Mat(_, _, _)
+            | PredeclaredType::Sampler(_)
+            | PredeclaredType::Texture(_)
+            | PredeclaredType::RayQuery
+            | PredeclaredType::AccelerationStructure
+            | PredeclaredType::Layer(_),
+        ) => Some(Callee::Vector(Size::named(name)?, None)),
+        None if name == "dot" => Some(Callee::Dot),
+        None => None,
+    }
+}
+
 /// The constructor of a type, if it is evaluated here.
-fn constructor(ty: MeasuredType) -> Option<Callee> {
+fn constructor(ty: MeasuredType) -> Option<Callee>
+    ensures { IfSome result (λ callee. constructor ty.kind ≡ Some callee) }
+{
     match ty.kind {
         TypeKind::Scalar(scalar) => Some(Callee::Function(conversion(scalar)?)),
-        TypeKind::Vector(n, scalar) => vector(n, Some(scalar)),
+        TypeKind::Vector(n, scalar) => vector(n, scalar),
         _ => None,
     }
 }
 
-fn vector(count: u8, scalar: Option<Scalar>) -> Option<Callee> {
+fn vector(count: u8, scalar: Scalar) -> Option<Callee>
+    ensures { result ≡ vector count scalar }
+{
     match count {
-        2 => Some(Callee::Vector(Size::Two, scalar)),
-        3 => Some(Callee::Vector(Size::Three, scalar)),
-        4 => Some(Callee::Vector(Size::Four, scalar)),
+        2 => Some(Callee::Vector(Size::Two, Some(scalar))),
+        3 => Some(Callee::Vector(Size::Three, Some(scalar))),
+        4 => Some(Callee::Vector(Size::Four, Some(scalar))),
         _ => None,
     }
 }
 
 /// The value of `dot` of these arguments, which are known, or why there is none.
-fn dot(arguments: &[Item]) -> Result<Value, Cause> {
+fn dot(arguments: &[Item]) -> Result<Value, Cause>
+    ensures { IfOk result (λ value. dot_value arguments.now ≡ Some value) }
+{
     let [a, b] = arguments else {
         return Err(Cause::WrongArgumentCount);
     };
@@ -109,31 +156,68 @@ fn dot(arguments: &[Item]) -> Result<Value, Cause> {
 }
 
 /// The value of a call with these arguments, or why there is none.
-fn value_of(callee: Callee, arguments: &[Item]) -> Result<Value, Cause> {
+fn value_of(callee: Callee, arguments: &[Item]) -> Result<Value, Cause>
+    ensures { IfOk result (IsCallOf callee arguments.now) }
+{
+    let is_only = arguments.len() == 1;
     let mut given = Arguments::Zero;
     for item in arguments {
-        given = match (item.content, callee) {
-            (Content::Value(Value::Later), _) => return Ok(Value::Later),
-            (Content::Value(Value::Known(constant)), _) => with(given, constant)?,
-            (Content::Value(Value::Vector(vector)), Callee::Vector(_, scalar)) => {
-                with_components(given, vector, scalar.filter(|_| arguments.len() == 1))?
-            }
-            (_, Callee::Dot) => given,
-            _ => return Err(Cause::NotInteger),
-        };
+        match item.content {
+            Content::Value(Value::Later) => return Ok(Value::Later),
+            content => given = with_content(callee, is_only, content, given)?,
+        }
     }
+    called_with(callee, arguments, given)
+}
+
+/// The value of a call with these arguments, which are known, or why there is none.
+fn called_with(callee: Callee, items: &[Item], arguments: Arguments) -> Result<Value, Cause>
+    ensures { IfOk result (λ value. called_with callee items.now arguments ≡ Some value) }
+{
     match callee {
-        Callee::Dot => dot(arguments),
-        Callee::Function(function) => Ok(Value::Known(function.apply(given)?)),
-        Callee::Vector(size, None) => Ok(Value::Vector(Vector::of(size, given)?)),
-        Callee::Vector(size, Some(scalar)) => match zero_of(scalar) {
-            Some(zero) => Ok(Value::Vector(Vector::of(size, given)?.like(zero)?)),
-            None => Err(Cause::NotInteger),
-        },
+        Callee::Dot => dot(items),
+        Callee::Function(function) => Ok(Value::Known(function.apply(arguments)?)),
+        Callee::Vector(size, None) => Ok(Value::Vector(Vector::of(size, arguments)?)),
+        Callee::Vector(size, Some(scalar)) => vector_in(scalar, Vector::of(size, arguments)?),
     }
 }
 
-fn with(given: Arguments, constant: Constant) -> Result<Arguments, Cause> {
+/// The arguments with one more, which is the only one or isn't.
+fn with_content(
+    callee: Callee,
+    is_only: bool,
+    content: Content,
+    given: Arguments,
+) -> Result<Arguments, Cause>
+    ensures { IfOk result (λ all. with_content callee is_only content given ≡ Some all) }
+{
+    match content {
+        Content::Value(Value::Known(constant)) => with(given, constant),
+        Content::Value(Value::Vector(vector)) => with_vector(callee, is_only, vector, given),
+        _ => Err(Cause::NotInteger),
+    }
+}
+
+/// The arguments with the components of a vector behind them. Those of the only argument are converted.
+fn with_vector(
+    callee: Callee,
+    is_only: bool,
+    vector: Vector,
+    given: Arguments,
+) -> Result<Arguments, Cause>
+    ensures { IfOk result (λ all. with_vector callee is_only vector given ≡ Some all) }
+{
+    match callee {
+        Callee::Vector(_, scalar) if is_only => with_components(given, vector, scalar),
+        Callee::Vector(_, _) => with_components(given, vector, None),
+        Callee::Dot => Ok(given),
+        Callee::Function(_) => Err(Cause::NotInteger),
+    }
+}
+
+fn with(given: Arguments, constant: Constant) -> Result<Arguments, Cause>
+    ensures { IfOk result (λ all. with_argument constant given ≡ Some all) }
+{
     given.with(constant).ok_or(Cause::WrongArgumentCount)
 }
 
@@ -142,17 +226,31 @@ fn with_components(
     given: Arguments,
     vector: Vector,
     scalar: Option<Scalar>,
-) -> Result<Arguments, Cause> {
-    let mut all = given;
-    for which in &COMPONENTS {
-        if let Some(integer) = vector.component(*which) {
-            all = with(all, component_in(Constant::Integer(integer), scalar)?)?;
-        }
-    }
-    Ok(all)
+) -> Result<Arguments, Cause>
+    ensures { IfOk result (λ all. with_components scalar vector components given ≡ Some all) }
+{
+    let one = with_component(given, vector.component(Component::First), scalar)?;
+    let two = with_component(one, vector.component(Component::Second), scalar)?;
+    let three = with_component(two, vector.component(Component::Third), scalar)?;
+    with_component(three, vector.component(Component::Fourth), scalar)
 }
 
-fn component_in(component: Constant, scalar: Option<Scalar>) -> Result<Constant, Cause> {
+fn with_component(
+    given: Arguments,
+    component: Option<Integer>,
+    scalar: Option<Scalar>,
+) -> Result<Arguments, Cause>
+    ensures { IfOk result (λ all. with_component scalar component given ≡ Some all) }
+{
+    match component {
+        Some(integer) => with(given, component_in(Constant::Integer(integer), scalar)?),
+        None => Ok(given),
+    }
+}
+
+fn component_in(component: Constant, scalar: Option<Scalar>) -> Result<Constant, Cause>
+    ensures { IfOk result (λ constant. component_in scalar component ≡ Some constant) }
+{
     match scalar {
         Some(scalar) => match conversion(scalar) {
             Some(function) => Ok(function.apply(Arguments::One(component))?),
@@ -163,7 +261,9 @@ fn component_in(component: Constant, scalar: Option<Scalar>) -> Result<Constant,
 }
 
 /// The function that converts to a scalar type.
-fn conversion(scalar: Scalar) -> Option<Function> {
+fn conversion(scalar: Scalar) -> Option<Function>
+    ensures { IfSome result (λ function. conversion scalar ≡ Some function) }
+{
     match scalar {
         Scalar::U32 => Some(Function::U32),
         Scalar::I32 => Some(Function::I32),
@@ -174,7 +274,9 @@ fn conversion(scalar: Scalar) -> Option<Function> {
 }
 
 /// The function that takes bits as those of a scalar type.
-fn bitcast(scalar: Option<Scalar>) -> Option<Callee> {
+fn bitcast(scalar: Option<Scalar>) -> Option<Callee>
+    ensures { IfSome result (λ callee. bitcast scalar ≡ Some callee) }
+{
     match scalar? {
         Scalar::U32 => Some(Callee::Function(Function::BitcastU32)),
         Scalar::I32 => Some(Callee::Function(Function::BitcastI32)),

@@ -2,6 +2,7 @@
 ghost use Rattle.std.specs.Prelude.{IfOk};
 ghost use Rattle.wgsl_source.specs.Members.{Grows};
 ghost use Rattle.wgsl_source.specs.TextDeclarations.{of_entry_points, of_overrides};
+ghost use Rattle.wgsl_source.specs.WrittenTypes.{meaning_of};
 ghost use Rattle.wgsl_source.specs.internal.Others.{IsReadOf};
 
 use crate::attribute::Owner;
@@ -76,7 +77,7 @@ impl<'t> Scope<'t> {
         &self,
         declaration: &Declaration<'t>,
     ) -> Result<Option<EntryPoint<'t>>, Stop>
-        ensures { IfOk result (IsReadOf (of_entry_points self.now.text) declaration.now) }
+        ensures { IfOk result (IsReadOf (of_entry_points self.now.text (meaning_of self.now)) declaration.now) }
     {
         let (attributes, _) = self.read_attributes(declaration.attributes, Owner::Function)?;
         match attributes.stage {
@@ -97,7 +98,7 @@ impl<'t> Scope<'t> {
         declaration: &Declaration<'t>,
     ) -> Result<Option<Override<'t>>, Stop>
         ensures grows { Grows types.old types.new }
-        ensures read { IfOk result (IsReadOf (of_overrides self.now.text) declaration.now) }
+        ensures read { IfOk result (IsReadOf (of_overrides self.now.text (meaning_of self.now)) declaration.now) }
     {
         let (attributes, _) = self.read_attributes(declaration.attributes, Owner::Override)?;
         let Initialized { ty, value, .. } = self.initialized(declaration);

@@ -1,6 +1,6 @@
 // What stands behind the name of a variable, an override or a constant.
 ghost use Rattle.std.specs.Prelude.{◌≡◌};
-ghost use Rattle.wgsl_source.specs.Declarations.{declared_type};
+ghost use Rattle.wgsl_source.specs.Declarations.{declared_type, initializer};
 
 use crate::declaration::Declaration;
 use crate::parts::{split_typed, without_last};
@@ -31,7 +31,8 @@ impl<'t> Scope<'t> {
 
     /// The type and the value of a constant.
     pub fn typed(&self, declaration: &Declaration<'t>) -> Initialized<'t>
-        ensures { result.ty.now ≡ declared_type declaration.now.rest.now }
+        ensures ty { result.ty.now ≡ declared_type declaration.now.rest.now }
+        ensures value { result.value.now ≡ initializer declaration.now.rest.now }
     {
         let split = split_typed(declaration.rest);
         Initialized {

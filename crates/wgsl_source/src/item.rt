@@ -1,5 +1,7 @@
 // What is read of a type or a value and isn't yet part of a larger one.
-ghost use Rattle.std.specs.Prelude.{◌≡◌, ◌-◌, ◌<◌, IsTrue, Some, slice_get};
+ghost use Rattle.std.specs.Prelude.{◌≡◌, ◌-◌, ◌<◌, ◌↔◌, IsTrue, Some, drop, slice_get};
+ghost use Rattle.std.specs.List.{All};
+ghost use Rattle.wgsl_source.specs.WrittenTypes.{IsNoSign};
 ghost use Rattle.wgsl_source.specs.declared.item.Item.{Item as of_item};
 
 use crate::fault::{Cause, Stop};
@@ -44,7 +46,7 @@ impl Item {
     }
 
     fn is_sign(self, sign: Kind) -> bool
-        ensures { IsTrue result → self.content ≡ Content.Sign sign }
+        ensures { IsTrue result ↔ (self.content ≡ Content.Sign sign) }
     {
         match self.content {
             Content::Sign(kind) => kind == sign,
@@ -55,7 +57,8 @@ impl Item {
 
 /// The index behind the last of these signs.
 pub fn behind_sign(items: &[Item], sign: Kind) -> usize
-    ensures { 0 < result → (it : of_item) × (slice_get items.now (result - 1) ≡ Some it) × (it.content ≡ Content.Sign sign) }
+    ensures sign { 0 < result → (it : of_item) × (slice_get items.now (result - 1) ≡ Some it) × (it.content ≡ Content.Sign sign) }
+    ensures last { All (IsNoSign sign) (drop result items.now) }
 {
     let mut at = items.len();
     while at > 0 {

@@ -2,7 +2,8 @@
 ghost use Rattle.std.specs.Prelude.{◌≡◌, ℕ, IfOk, Some, slice_get};
 ghost use Rattle.wgsl_source.specs.Measures.{IsArrayAmong};
 ghost use Rattle.wgsl_source.specs.Members.{Grows};
-ghost use Rattle.wgsl_source.specs.WrittenTypes.{AreElements, HasScalar, IsAround, IsCount, IsCountOf, IsLayered, IsPointer, IsResource, environment, meaning_of};
+ghost use Rattle.wgsl_source.specs.TemplateLists.{AreElements, HasScalar, IsAround, IsCount, IsCountOf, IsLayered, IsPointer};
+ghost use Rattle.wgsl_source.specs.WrittenTypes.{IsResource, environment, meaning_of};
 
 use crate::check::element_fault;
 use crate::fault::{Cause, Stop};

@@ -1,8 +1,10 @@
 // The names in template lists, and the types that contain no other type.
-ghost use Rattle.std.specs.Prelude.{◌≡◌, ◌⊎◌, ◌∷◌, IfOk, IfSome, true};
+ghost use Rattle.std.specs.Prelude.{◌≡◌, ◌⊎◌, ◌∷◌, IfOk, IfSome, Some, true};
 ghost use Rattle.wgsl_syntax.specs.Address.{IsSpace, default_access, may_say};
 ghost use Rattle.wgsl_syntax.specs.declared.rules.RuleSet.TheVariants.{Standard};
-ghost use Rattle.wgsl_source.specs.internal.Items.{HasAccess, NamesAccess};
+ghost use Rattle.wgsl_source.specs.TemplateLists.{IsFlag, IsSampled, IsTexture, scalar_of};
+ghost use Rattle.wgsl_source.specs.WrittenTypes.{meaning_of};
+ghost use Rattle.wgsl_source.specs.internal.Items.{HasAccess, NamesAccess, NamesFlag, NamesFormat};
 
 use crate::fault::{Cause, Expected, Stop};
 use crate::item::{Content, Item};
@@ -23,7 +25,9 @@ impl<'t> Scope<'t> {
         name: Item,
         texture: TextureName,
         parameters: &[Item],
-    ) -> Result<TextureType, Stop> {
+    ) -> Result<TextureType, Stop>
+        ensures { IfOk result (IsTexture self.now.text (meaning_of self.now) texture parameters.now) }
+    {
         let parameters = match (texture.parameter_kind(), parameters) {
             (TextureParameterKind::None, _) => return Err(name.stop(Cause::NeedlessList)),
             (TextureParameterKind::Sampled, [sampled]) => {
@@ -41,7 +45,9 @@ impl<'t> Scope<'t> {
     }
 
     /// The type of a sampled texture.
-    fn sampled(&self, item: Item) -> Result<SampledType, Stop> {
+    fn sampled(&self, item: Item) -> Result<SampledType, Stop>
+        ensures { IfOk result (IsSampled self.now.text (meaning_of self.now) item) }
+    {
         let word = self.text.word(item.token);
         let sampled = match item.content {
             Content::Name => match self.meaning(word) {
@@ -58,7 +64,9 @@ impl<'t> Scope<'t> {
         }
     }
 
-    fn format(&self, item: Item) -> Result<TexelFormat, Stop> {
+    fn format(&self, item: Item) -> Result<TexelFormat, Stop>
+        ensures { IfOk result (NamesFormat self.now.text item) }
+    {
         let word = self.enumerant(item, Expected::TexelFormat)?;
         match TexelFormat::named_by(RuleSet::Standard, word) {
             Some(format) => Ok(format),
@@ -125,16 +133,20 @@ impl<'t> Scope<'t> {
     }
 
     /// The flag of a ray query or an acceleration structure.
-    pub fn flag(
-        &self,
-        name: Item,
-        parameters: &[Item],
-    ) -> Result<AccelerationStructureFlags, Stop> {
-        let item = match parameters {
-            [item] => *item,
-            _ => return Err(name.stop(Cause::WrongParameterCount)),
-        };
-        match AccelerationStructureFlags::from_str(self.enumerant(item, Expected::Flag)?) {
+    pub fn flag(&self, name: Item, parameters: &[Item]) -> Result<AccelerationStructureFlags, Stop>
+        ensures { IfOk result (IsFlag self.now.text parameters.now) }
+    {
+        match parameters {
+            [item] => self.only_flag(*item),
+            _ => Err(name.stop(Cause::WrongParameterCount)),
+        }
+    }
+
+    fn only_flag(&self, item: Item) -> Result<AccelerationStructureFlags, Stop>
+        ensures { IfOk result (NamesFlag self.now.text item) }
+    {
+        let name = self.enumerant(item, Expected::Flag)?;
+        match AccelerationStructureFlags::from_str(name) {
             Ok(flag) => Ok(flag),
             Err(_) => Err(item.stop(Cause::Expected(Expected::Flag))),
         }
@@ -142,7 +154,9 @@ impl<'t> Scope<'t> {
 }
 
 /// The sampled type that is this scalar.
-fn sampled_by(scalar: Option<Scalar>) -> Option<SampledType> {
+fn sampled_by(scalar: Option<Scalar>) -> Option<SampledType>
+    ensures { IfSome result (λ sampled. scalar ≡ Some (scalar_of sampled)) }
+{
     match scalar? {
         Scalar::F32 => Some(SampledType::F32),
         Scalar::I32 => Some(SampledType::I32),

@@ -39,7 +39,7 @@ impl<'t> Listed<'t> {
         meaning: Meaning,
     ) -> Result<(), AllocError>
         ensures { (t : of_text) (env : Environment) (structs : List of_struct) → IsMeant t env structs declaration.now meaning
-            → OnOk result (Lists t structs (declaration.now ∷ []) self.old self.new) }
+            → OnOk result (Lists t env structs (declaration.now ∷ []) self.old self.new) }
     {
         match declaration.kind {
             DeclarationKind::Struct => self.list_struct(declaration, meaning),
@@ -54,7 +54,7 @@ impl<'t> Listed<'t> {
     ) -> Result<(), AllocError>
         ensures { (t : of_text) (env : Environment) (structs : List of_struct) → declaration.now.kind ≡ DeclarationKind.Struct
             → IsMeant t env structs declaration.now meaning
-            → OnOk result (Lists t structs (declaration.now ∷ []) self.old self.new) }
+            → OnOk result (Lists t env structs (declaration.now ∷ []) self.old self.new) }
     {
         match index_of(meaning) {
             Some(index) => Ok(self.in_text.push(index)?),
@@ -66,7 +66,7 @@ impl<'t> Listed<'t> {
 /// The index of the struct that a name stands for.
 fn index_of(meaning: Meaning) -> Option<usize>
     ensures { IfSome result (λ index. (t : of_text) (env : Environment) (structs : List of_struct) (d : of_declaration) → d.kind ≡ DeclarationKind.Struct
-        → IsMeant t env structs d meaning → IsReadAs t structs d index) }
+        → IsMeant t env structs d meaning → IsReadAs t env structs d index) }
 {
     match meaning {
         Meaning::Type(ty) => match ty.kind {

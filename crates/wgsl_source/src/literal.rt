@@ -1,6 +1,6 @@
 // Numbers, as they are written.
 ghost use Rattle.std.specs.Prelude.{IfOk};
-ghost use Rattle.wgsl_source.specs.Attributes.{IsLiteral};
+ghost use Rattle.wgsl_source.specs.Values.{IsNumber};
 
 use crate::fault::Cause;
 use wgsl_constants::constant::Constant;
@@ -8,7 +8,7 @@ use wgsl_constants::literal::{LiteralError, integer_of};
 
 /// What a number stands for. One of half precision needs `enable f16;`.
 pub fn value_of_literal(word: &str, has_half: bool) -> Result<Constant, Cause>
-    ensures { IfOk result (IsLiteral word.now) }
+    ensures { IfOk result (IsNumber word.now) }
 {
     match integer_of(word.as_bytes()) {
         Ok(integer) => Ok(Constant::Integer(integer)),

@@ -1,6 +1,6 @@
 // Modules: what they declare, and what is wrong with them.
-ghost use Rattle.std.specs.Prelude.{IfOk, map};
-ghost use Rattle.wgsl_source.specs.TextStructs.{AreAllTold, AreDeclared};
+ghost use Rattle.std.specs.Prelude.{IfOk};
+ghost use Rattle.wgsl_source.specs.TextStructs.{AreDeclared};
 ghost use Rattle.wgsl_source.specs.Structs.{AreStructsOf};
 
 use crate::declaration::{Declarations, read_declarations};
@@ -76,7 +76,6 @@ pub fn read_module<'t>(
 ) -> Result<Module<'t>, AllocError>
     ensures structs { IfOk result (λ m. AreStructsOf m.elements.items m.structs.items) }
     ensures declared { IfOk result (AreDeclared text.entry grammar.now.events.items) }
-    ensures told { IfOk result (λ m. AreAllTold text.entry grammar.now.events.items m.structs.items m.in_text.items (map (λ name. name.now) m.left_out.items)) }
 {
     let Declarations {
         declarations,

@@ -3,8 +3,9 @@ ghost use Rattle.std.specs.Prelude.{◌≡◌, suc, ◌++◌, [], ◌∷◌, IfO
 ghost use Rattle.wgsl_spelling.specs.Words.{word};
 ghost use Rattle.wgsl_source.specs.Declarations.{first_count, token_before};
 ghost use Rattle.wgsl_source.specs.Members.{Grows};
-ghost use Rattle.wgsl_source.specs.Attributes.{IsArgument};
-ghost use Rattle.wgsl_source.specs.WrittenTypes.{BecomesValue, ClosesList, HasType, IsValueSaid, Step, Steps, environment, item, meaning_of};
+ghost use Rattle.wgsl_source.specs.Values.{IsLiteral};
+ghost use Rattle.wgsl_source.specs.WrittenTypes.{BecomesValue, Closes, HasType, HasTypeIf, HasValue, IsBinary, IsElementOf, IsListedBy, IsMemberOf, IsSettled, IsUnary, IsValueCalled, IsValueSaid, Step, Steps, environment, item, meaning_of, sign_in};
+ghost use Rattle.wgsl_source.specs.internal.Items.{IsPut};
 ghost use Rattle.wgsl_source.specs.declared.item.Content.TheVariants.{Name};
 
 use crate::fault::{Cause, Expected, Named, Stop};
@@ -19,6 +20,7 @@ use wgsl_reader::kind::Kind;
 use wgsl_reader::mark::Mark;
 use wgsl_reader::read::Event;
 use wgsl_reader::token::Token;
+use wgsl_spelling::value::bool_of;
 
 impl<'t> Scope<'t> {
     /// The type that events say.
@@ -38,7 +40,8 @@ impl<'t> Scope<'t> {
         types: &mut Types,
         events: &[Event],
     ) -> Result<Option<MeasuredType>, Stop>
-        ensures { Grows types.old types.new }
+        ensures grows { Grows types.old types.new }
+        ensures written { IfOk result (HasTypeIf self.now.text (environment self.now types.new) events.now) }
     {
         match events {
             [] => Ok(None),
@@ -47,11 +50,13 @@ impl<'t> Scope<'t> {
     }
 
     /// The value that events say.
-    pub fn value_noted(&self, events: &[Event]) -> Result<PlacedValue, Stop> {
+    pub fn value_noted(&self, events: &[Event]) -> Result<PlacedValue, Stop>
+        ensures { IfOk result (λ placed. HasValue self.now.text (meaning_of self.now) events.now placed.value) }
+    {
         let mut types = Types::none(self.alloc);
         let mut items = Vec::new(self.alloc);
         self.read_all(&mut types, &mut items, events)?;
-        let item = self.pop(&mut items)?;
+        let item = self.only(&items)?;
         Ok(PlacedValue {
             value: self.value_of(item)?,
             at: item.token.at,
@@ -139,7 +144,7 @@ impl<'t> Scope<'t> {
     /// Ends a template list.
     fn close_list(&self, types: &mut Types, items: &mut Vec<Item>, token: Token) -> Result<(), Stop>
         ensures grows { Grows types.old types.new }
-        ensures closed { OnOk result (ClosesList self.now.text (environment self.now types.new) items.old.items items.new.items) }
+        ensures closed { OnOk result (Closes Kind.OpenTemplate (IsListedBy self.now.text (environment self.now types.new)) items.old.items items.new.items) }
     {
         let all = items.as_slice();
         let first = behind_sign(all, Kind::OpenTemplate);
@@ -151,7 +156,7 @@ impl<'t> Scope<'t> {
 
     /// Ends a call.
     fn close_call(&self, items: &mut Vec<Item>, token: Token) -> Result<(), Stop>
-        ensures { OnOk result (BecomesValue items.old.items items.new.items) }
+        ensures { OnOk result (Closes Kind.OpenRound (IsValueCalled self.now.text (meaning_of self.now)) items.old.items items.new.items) }
     {
         let all = items.as_slice();
         let first = behind_sign(all, Kind::OpenRound);
@@ -163,7 +168,7 @@ impl<'t> Scope<'t> {
 
     /// Replaces the last item by its value.
     fn settle(&self, items: &mut Vec<Item>) -> Result<(), Stop>
-        ensures { OnOk result (BecomesValue items.old.items items.new.items) }
+        ensures { OnOk result (BecomesValue (IsSettled self.now.text (meaning_of self.now)) items.old.items items.new.items) }
     {
         let item = self.pop(items)?;
         let value = self.value_of(item)?;
@@ -171,7 +176,7 @@ impl<'t> Scope<'t> {
     }
 
     fn close_unary(&self, items: &mut Vec<Item>) -> Result<(), Stop>
-        ensures { OnOk result (BecomesValue items.old.items items.new.items) }
+        ensures { OnOk result (BecomesValue (IsUnary self.now.text (meaning_of self.now)) items.old.items items.new.items) }
     {
         let operand = self.pop(items)?;
         let operator = self.pop(items)?;
@@ -180,7 +185,7 @@ impl<'t> Scope<'t> {
     }
 
     fn close_binary(&self, items: &mut Vec<Item>) -> Result<(), Stop>
-        ensures { OnOk result (BecomesValue items.old.items items.new.items) }
+        ensures { OnOk result (BecomesValue (IsBinary self.now.text (meaning_of self.now)) items.old.items items.new.items) }
     {
         let right = self.pop(items)?;
         let operator = self.pop(items)?;
@@ -196,7 +201,7 @@ impl<'t> Scope<'t> {
 
     /// Ends a component, whose letter is a token.
     fn close_member(&self, items: &mut Vec<Item>, letter: Token) -> Result<(), Stop>
-        ensures { OnOk result (BecomesValue items.old.items items.new.items) }
+        ensures { OnOk result (BecomesValue (IsMemberOf self.now.text (meaning_of self.now) letter) items.old.items items.new.items) }
     {
         let item = self.pop(items)?;
         let value = self.value_of(item)?;
@@ -205,7 +210,7 @@ impl<'t> Scope<'t> {
 
     /// Ends an element.
     fn close_element(&self, items: &mut Vec<Item>) -> Result<(), Stop>
-        ensures { OnOk result (BecomesValue items.old.items items.new.items) }
+        ensures { OnOk result (BecomesValue (IsElementOf self.now.text (meaning_of self.now)) items.old.items items.new.items) }
     {
         let at = self.pop(items)?;
         self.pop(items)?;
@@ -227,12 +232,11 @@ impl<'t> Scope<'t> {
 
     /// The value of a literal.
     pub fn literal(&self, token: Token) -> Result<Value, Stop>
-        ensures { IfOk result (IsArgument (Some (word self.now.text.text.now token))) }
+        ensures { IfOk result (IsLiteral self.now.text token) }
     {
-        let value = match token.kind {
-            Kind::True => Ok(Constant::Bool(true)),
-            Kind::False => Ok(Constant::Bool(false)),
-            _ => value_of_literal(self.text.word(token), self.extensions.half),
+        let value = match bool_of(token.kind) {
+            Some(test) => Ok(Constant::Bool(test)),
+            None => value_of_literal(self.text.word(token), self.extensions.half),
         };
         match value {
             Ok(constant) => Ok(Value::Known(constant)),
@@ -308,7 +312,7 @@ fn put(
     value: Result<Value, Cause>,
     at: Item,
 ) -> Result<(), Stop>
-    ensures { OnOk result (BecomesValue items.old.items items.new.items) }
+    ensures { OnOk result (IsPut value first items.old.items items.new.items) }
 {
     match value {
         Ok(value) => push(items, first.token, Content::Value(value)),
@@ -317,7 +321,9 @@ fn put(
 }
 
 /// The operator that an item is.
-fn sign_of(item: Item) -> Kind {
+fn sign_of(item: Item) -> Kind
+    ensures { result ≡ sign_in item.content }
+{
     match item.content {
         Content::Sign(kind) => kind,
         _ => Kind::End,

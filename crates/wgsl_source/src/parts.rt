@@ -1,6 +1,6 @@
 // The parts of a declaration: slices of its events.
 ghost use Rattle.std.specs.Prelude.{◌≡◌, ◌≢◌, ◌+◌, [], ◌∷◌, ◌<◌, ◌≤◌, ◌^◌, IfSome, MatchOption, drop, length, slice_get, take};
-ghost use Rattle.wgsl_source.specs.Declarations.{BehindAttributes, attribute_len, diagnostic_len, end_of, inner, is_diagnostic, is_diagnostic_mark, is_end, len_to, list_len, unclosed_behind, unclosed_len, without_last};
+ghost use Rattle.wgsl_source.specs.Declarations.{BehindAttributes, argument_len, attribute_len, calls_behind, diagnostic_len, end_of, inner, is_argument, is_diagnostic, is_diagnostic_mark, is_end, len_to, list_len, unclosed_behind, unclosed_len, without_last};
 
 use wgsl_reader::mark::Mark;
 use wgsl_reader::read::Event;
@@ -151,21 +151,52 @@ pub fn behind_attributes<'e>(events: &'e [Event]) -> &'e [Event]
 
 /// The argument in front, with its `Argument`, if there is one.
 pub fn split_argument<'e>(events: &'e [Event]) -> Option<Split<'e>>
-    ensures { IfSome result (λ split. length split.rest.now < length events.now) }
+    ensures exact { MatchOption result (argument_len 0 events.now ≡ 0)
+        (λ split. (argument_len 0 events.now ≢ 0) × (split.front.now ≡ take (argument_len 0 events.now) events.now)
+        × (split.rest.now ≡ drop (argument_len 0 events.now) events.now)) }
+    ensures less { IfSome result (λ split. length split.rest.now < length events.now) }
 {
-    let mut calls: usize = 0;
+    match argument_len(events) {
+        0 => None,
+        len => Some(split_at(events, len)),
+    }
+}
+
+/// How many events the argument in front has, with its `Argument`; none if there is none.
+fn argument_len(events: &[Event]) -> usize
+    ensures exact { result ≡ argument_len 0 events.now }
+    ensures bound { result ≤ length events.now }
+{
+    let mut calls = 0;
     let mut at = 0;
     while at < events.len() {
         let mark = events[at].mark;
         at += 1;
-        match mark {
-            Mark::Argument if calls == 0 => return Some(split_at(events, at)),
-            Mark::Open => calls = calls.saturating_add(1),
-            Mark::Call => calls = calls.saturating_sub(1),
-            _ => {}
+        if calls == 0 && is_argument(mark) {
+            return at;
         }
+        calls = calls_behind(calls, mark);
     }
-    None
+    0
+}
+
+fn is_argument(mark: Mark) -> bool
+    ensures { result ≡ is_argument mark }
+{
+    matches!(mark, Mark::Argument)
+}
+
+/// How many calls are open behind an event.
+fn calls_behind(calls: usize, mark: Mark) -> usize
+    requires { calls + 1 < 2 ^ 64 }
+    ensures exact { result ≡ calls_behind calls mark }
+    ensures bound { result ≤ calls + 1 }
+{
+    match mark {
+        Mark::Open => calls + 1,
+        Mark::Call => calls.saturating_sub(1),
+        _ => calls,
+    }
 }
 
 /// The template list in front, if there is one.
@@ -221,7 +252,8 @@ fn unclosed_behind(lists: usize, mark: Mark) -> usize
 
 /// The declared type behind a name, with its `Typed`; nothing if none is declared.
 pub fn split_typed<'e>(events: &'e [Event]) -> Split<'e>
-    ensures { result.front.now ≡ take (len_to End.Typed events.now) events.now }
+    ensures front { result.front.now ≡ take (len_to End.Typed events.now) events.now }
+    ensures rest { result.rest.now ≡ drop (len_to End.Typed events.now) events.now }
 {
     split_at(events, len_to(events, End::Typed))
 }

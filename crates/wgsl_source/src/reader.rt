@@ -3,7 +3,7 @@ ghost use Rattle.std.specs.Prelude.{◌≡◌, ◌≢◌, ◌∷◌, [], IfOk, I
 ghost use Rattle.wgsl_source.specs.Members.{Grows};
 ghost use Rattle.wgsl_source.specs.WrittenTypes.{environment};
 ghost use Rattle.wgsl_source.specs.internal.Others.{AddsOthers};
-ghost use Rattle.wgsl_source.specs.internal.Read.{AreAllMeant, AreListed, AreNamed, AreNoTypes, IsMeant, IsMeantAt, IsNoType, IsOfSort, Known, KnownAll, KnownAt, KnownStruct, Means, Nothing, Stays, names_of};
+ghost use Rattle.wgsl_source.specs.internal.Read.{AreAllMeant, AreListed, AreNamed, AreNothing, IsMeant, IsMeantAt, IsNothing, IsOfSort, Known, KnownAll, KnownAt, KnownStruct, Means, Nothing, Stays, names_of};
 ghost use Rattle.wgsl_source.specs.Structs.{IsKept, Keeps, KeepsNamed, SameStructs};
 ghost use Rattle.wgsl_source.specs.declared.declaration.Declaration.{Declaration as of_declaration};
 ghost use Rattle.wgsl_source.specs.declared.types.Types.{Types as of_types};
@@ -45,7 +45,7 @@ impl<'t> Reader<'t> {
         ensures others { OnOk result (AddsOthers self.new.scope self.new.types (self.new.faults.items ≢ []) declarations.now others.old others.new) }
         ensures named { AreNamed declarations.now self.old.scope → OnOk result (AreNamed declarations.now self.new.scope) }
         ensures meant { OnOk result (AreAllMeant declarations.now self.new) }
-        ensures listed { IfOk result (λ l. AreListed self.new.scope.text self.new.structs.items declarations.now l.in_text.items (names_of l)) }
+        ensures listed { IfOk result (λ l. AreListed self.new.scope.text (environment self.new.scope self.new.types) self.new.structs.items declarations.now l.in_text.items (names_of l)) }
     {
         if has_byte_order_mark(self.scope.text.text.as_bytes()) {
             self.faults.push(Fault {
@@ -126,7 +126,7 @@ impl<'t> Reader<'t> {
         ensures named { (ds : List of_declaration) → slice_get ds index ≡ Some declaration.now → AreNamed ds self.old.scope
             → OnOk result (AreNamed ds self.new.scope) }
         ensures same { SameStructs self.old self.new }
-        ensures none { (ds : List of_declaration) → AreNoTypes ds self.old → AreNoTypes ds self.new }
+        ensures none { (ds : List of_declaration) → AreNothing ds self.old → AreNothing ds self.new }
     {
         self.declared.add(declaration.kind, declaration.name)?;
         if !self.scope.names.contains_key(&declaration.name) {
@@ -149,7 +149,7 @@ impl<'t> Reader<'t> {
         ensures means { slice_get self.old.scope.meanings.items index ≡ Some Meaning.Unread → (ds : List of_declaration)
             → ((d : of_declaration) → slice_get ds index ≡ Some d → IsMeant self.old.scope.text (environment self.old.scope self.old.types) self.old.structs.items d meaning)
             → Means ds self.old self.new }
-        ensures none { (ds : List of_declaration) → ((d : of_declaration) → IsNoType d meaning) → AreNoTypes ds self.old → AreNoTypes ds self.new }
+        ensures none { (ds : List of_declaration) → ((d : of_declaration) → IsNothing d meaning) → AreNothing ds self.old → AreNothing ds self.new }
     {
         if index < self.scope.meanings.len() {
             self.scope.meanings[index] = meaning;
@@ -209,7 +209,7 @@ impl<'t> Reader<'t> {
     /// Lists the structs, and those that are left out, in the order of the text.
     fn list_structs(&self, declarations: &[Declaration<'t>]) -> Result<Listed<'t>, AllocError>
         ensures { AreAllMeant declarations.now self.now → IfOk result
-            (λ l. AreListed self.now.scope.text self.now.structs.items declarations.now l.in_text.items (names_of l)) }
+            (λ l. AreListed self.now.scope.text (environment self.now.scope self.now.types) self.now.structs.items declarations.now l.in_text.items (names_of l)) }
     {
         let mut listed = Listed::none(self.scope.alloc);
         for (declaration, meaning) in declarations.iter().zip(&self.scope.meanings) {
@@ -283,7 +283,7 @@ impl<'t> Reader<'t> {
         ensures scope { self.new.scope ≡ self.old.scope }
         ensures sort { IfOk result (IsOfSort self.old.scope.text (environment self.old.scope self.new.types) declaration.now) }
         ensures kept { declaration.now.kind ≡ DeclarationKind.Struct
-            → IfOk result (IsKept self.old.scope.text declaration.now self.old.structs.items self.new.structs.items) }
+            → IfOk result (IsKept self.old.scope.text (environment self.old.scope self.new.types) declaration.now self.old.structs.items self.new.structs.items) }
     {
         match declaration.kind {
             DeclarationKind::Override => Ok(Meaning::Value(Value::Later)),
@@ -309,7 +309,7 @@ impl<'t> Reader<'t> {
             → IfOk result (IsOfSort self.old.scope.text (environment self.old.scope self.new.types) declaration.now) }
         ensures keeps { Keeps (KnownAt declaration.now) self.old self.new }
         ensures scope { self.new.scope ≡ self.old.scope }
-        ensures kept { IfOk result (IsKept self.old.scope.text declaration.now self.old.structs.items self.new.structs.items) }
+        ensures kept { IfOk result (IsKept self.old.scope.text (environment self.old.scope self.new.types) declaration.now self.old.structs.items self.new.structs.items) }
     {
         let structure = self.scope.read_struct(&mut self.types, declaration)?;
         let ty = structure.measured(self.structs.len());
@@ -319,7 +319,8 @@ impl<'t> Reader<'t> {
 
     #[tactic(auto, using(crate::proofs::Structs::keeps_grown))]
     fn read_constant(&mut self, declaration: &Declaration<'t>) -> Result<Meaning, Stop>
-        ensures sort { IfOk result (IsOfSort self.old.scope.text (environment self.old.scope self.new.types) declaration.now) }
+        ensures sort { declaration.now.kind ≡ DeclarationKind.Constant
+            → IfOk result (IsOfSort self.old.scope.text (environment self.old.scope self.new.types) declaration.now) }
         ensures keeps { Keeps (KnownStruct declaration.now) self.old self.new }
         ensures scope { self.new.scope ≡ self.old.scope }
     {

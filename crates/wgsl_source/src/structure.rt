@@ -1,6 +1,6 @@
 // Structs, read and laid out.
 ghost use Rattle.std.specs.Prelude.{◌≡◌, ◌++◌, ◌↔◌, IfOk, IsSome, IsTrue, None, OnOk, [], ◌∷◌};
-ghost use Rattle.wgsl_source.specs.TextStructs.{AreMembers, AreTyped, IsMember, IsTyped};
+ghost use Rattle.wgsl_source.specs.TextStructs.{AreMembers, IsMember};
 ghost use Rattle.wgsl_source.specs.WrittenTypes.{environment};
 ghost use Rattle.wgsl_source.specs.Faults.{OnFault};
 ghost use Rattle.wgsl_source.specs.internal.Read.{IsFrom};
@@ -167,8 +167,7 @@ impl<'t> Scope<'t> {
         ensures layout { IfOk result (λ s. IsLaidOut s.members.items s.size s.align) }
         ensures measured { IfOk result (λ s. AreMeasured types.new.elements.items s.members.items) }
         ensures runtime_sized { IfOk result (λ s. IsTrue s.is_runtime_sized ↔ EndsRuntimeSized s.members.items) }
-        ensures declared { IfOk result (IsFrom self.now.text declaration.now) }
-        ensures types { IfOk result (λ s. AreTyped self.now.text (environment self.now types.new) declaration.now.rest.now s.members.items) }
+        ensures declared { IfOk result (IsFrom self.now.text (environment self.now types.new) declaration.now) }
     {
         let mut draft = Draft::new(self.alloc);
         let layout = match self.read_members(types, declaration.rest, &mut draft) {
@@ -202,9 +201,7 @@ impl<'t> Scope<'t> {
         ensures draft { IsDraft types.old.elements.items draft.old
             → OnOk result (IsDraft types.new.elements.items draft.new) }
         ensures declared { draft.old.members.items ≡ []
-            → OnOk result (AreMembers self.now.text events.now (members_of draft.new.members.items)) }
-        ensures types { draft.old.members.items ≡ []
-            → OnOk result (AreTyped self.now.text (environment self.now types.new) events.now (members_of draft.new.members.items)) }
+            → OnOk result (AreMembers self.now.text (environment self.now types.new) events.now (members_of draft.new.members.items)) }
     {
         let mut rest = events;
         while let Some(split) = split_to(rest, End::Member) {
@@ -221,8 +218,7 @@ impl<'t> Scope<'t> {
     fn read_member(&self, types: &mut Types, events: &[Event]) -> Result<Written<'t>, Stop>
         ensures grows { Grows types.old types.new }
         ensures measured { IfOk result (λ w. IsMeasuredMember types.new.elements.items w.member) }
-        ensures declared { IfOk result (λ w. IsMember self.now.text events.now w.member) }
-        ensures types { IfOk result (λ w. IsTyped self.now.text (environment self.now types.new) events.now w.member) }
+        ensures declared { IfOk result (λ w. IsMember self.now.text (environment self.now types.new) events.now w.member) }
     {
         let (attributes, rest) = self.read_attributes(events, Owner::Member)?;
         let name = self.first_token(rest);

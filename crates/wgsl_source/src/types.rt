@@ -1,8 +1,9 @@
 // Types, as a module writes them.
-ghost use Rattle.std.specs.Prelude.{◌≡◌, IfOk, Some, slice_get};
+ghost use Rattle.std.specs.Prelude.{◌≡◌, IfOk, Some, codes, slice_get};
 ghost use Rattle.wgsl_rules.specs.layout.Layout.{IsExactly};
 ghost use Rattle.wgsl_source.specs.Members.{Grows, IsLeastSize};
 ghost use Rattle.wgsl_source.specs.WrittenTypes.{IsLeaf, IsListed, IsListedBy, IsTypeSaid, environment, meaning_of};
+ghost use Rattle.wgsl_source.specs.TemplateLists.{IsListedAs};
 ghost use Rattle.wgsl_source.specs.internal.Items.{NamesSpace};
 ghost use Rattle.wgsl_spelling.specs.Predeclared.{predeclared as predeclared_by};
 ghost use Rattle.wgsl_spelling.specs.Words.{word};
@@ -123,29 +124,44 @@ impl<'t> Scope<'t> {
         parameters: &[Item],
     ) -> Result<Content, Stop>
         ensures grows { Grows types.old types.new }
-        ensures listed { IfOk result (IsListedBy self.now.text (environment self.now types.new) (word self.now.text.text.now name.token) parameters.now) }
+        ensures listed { IfOk result (IsListedBy self.now.text (environment self.now types.new) name parameters.now) }
     {
-        let word = self.text.word(name.token);
-        match self.meaning(word) {
+        match self.meaning(self.text.word(name.token)) {
             Some(Meaning::Faulty | Meaning::Unread) => Err(name.elsewhere()),
             Some(_) => Err(name.stop(Cause::NeedlessList)),
-            None if word == "bitcast" => self.bitcast(types, name, parameters),
-            None if predeclared(word).is_none() => Ok(Content::Function),
-            None => {
-                let named = self.predeclared_type(types, name)?;
-                let ty = self.type_listed(types, name, named, parameters)?;
-                if ty.levels > LEVELS {
-                    Err(name.stop(Cause::TooDeep))
-                } else {
-                    Ok(Content::Type(ty))
-                }
-            }
+            None => self.predeclared_listed(types, name, parameters),
         }
     }
 
-    fn bitcast(&self, types: &mut Types, name: Item, parameters: &[Item]) -> Result<Content, Stop>
+    /// What a name that the module doesn't declare stands for with a template list.
+    fn predeclared_listed(
+        &self,
+        types: &mut Types,
+        name: Item,
+        parameters: &[Item],
+    ) -> Result<Content, Stop>
         ensures grows { Grows types.old types.new }
-        ensures listed { IfOk result (IsListedBy self.now.text (environment self.now types.new) (word self.now.text.text.now name.token) parameters.now) }
+        ensures listed { IfOk result (IsListedAs self.now.text (environment self.now types.new) (word self.now.text.text.now name.token) parameters.now) }
+    {
+        let word = self.text.word(name.token);
+        if word == "bitcast" {
+            return self.bitcast(types, parameters);
+        }
+        if predeclared(word).is_none() {
+            return Ok(Content::Function);
+        }
+        let named = self.predeclared_type(types, name)?;
+        let ty = self.type_listed(types, name, named, parameters)?;
+        if ty.levels > LEVELS {
+            Err(name.stop(Cause::TooDeep))
+        } else {
+            Ok(Content::Type(ty))
+        }
+    }
+
+    fn bitcast(&self, types: &mut Types, parameters: &[Item]) -> Result<Content, Stop>
+        ensures grows { Grows types.old types.new }
+        ensures listed { IfOk result (IsListedAs self.now.text (environment self.now types.new) (codes "bitcast") parameters.now) }
     {
         match parameters {
             [of] => {

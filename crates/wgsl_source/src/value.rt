@@ -1,9 +1,8 @@
 // What is known of a value when a module is read.
-ghost use Rattle.std.specs.Prelude.{IfOk};
-ghost use Rattle.wgsl_source.specs.WrittenTypes.{Environment};
-ghost use Rattle.wgsl_source.specs.declared.declaration.Declaration.{Declaration as of_declaration};
-ghost use Rattle.wgsl_source.specs.declared.text.Text.{Text as of_text};
-ghost use Rattle.wgsl_source.specs.internal.Read.{IsOfSort};
+ghost use Rattle.std.specs.Prelude.{◌≡◌, IfOk, Some};
+ghost use Rattle.wgsl_source.specs.Values.{binary, component_at, component_of, constant_in, converted, element, float_in, in_type, known, member, unary, vector_in};
+ghost use Rattle.wgsl_source.specs.WrittenTypes.{HasInitial, meaning_of};
+ghost use Rattle.wgsl_source.specs.internal.Read.{IsConstantOf};
 
 use crate::fault::{Cause, Stop};
 use crate::measured::{MeasuredType, TypeKind};
@@ -35,7 +34,9 @@ pub struct PlacedValue {
 }
 
 /// The value of a `-`, a `~` or a `!` in front of a value, or why there is none.
-pub fn unary(sign: Kind, value: Value) -> Result<Value, Cause> {
+pub fn unary(sign: Kind, value: Value) -> Result<Value, Cause>
+    ensures { IfOk result (λ v. unary sign value ≡ Some v) }
+{
     match (sign, value) {
         (_, Value::Known(operand)) => Ok(Value::Known(unary_value(sign, operand)?)),
         (Kind::Minus | Kind::Tilde | Kind::Bang, Value::Later) => Ok(Value::Later),
@@ -44,7 +45,9 @@ pub fn unary(sign: Kind, value: Value) -> Result<Value, Cause> {
 }
 
 /// The value of an operator between two values, or why there is none.
-pub fn binary(sign: Kind, left: Value, right: Value) -> Result<Value, Cause> {
+pub fn binary(sign: Kind, left: Value, right: Value) -> Result<Value, Cause>
+    ensures { IfOk result (λ v. binary sign left right ≡ Some v) }
+{
     match (left, right) {
         (Value::Later, _) | (_, Value::Later) => Ok(Value::Later),
         (Value::Known(a), Value::Known(b)) => Ok(Value::Known(binary_value(sign, a, b)?)),
@@ -53,7 +56,9 @@ pub fn binary(sign: Kind, left: Value, right: Value) -> Result<Value, Cause> {
 }
 
 /// The component of a value with this letter, or why there is none.
-pub fn member(value: Value, letter: &str) -> Result<Value, Cause> {
+pub fn member(value: Value, letter: &str) -> Result<Value, Cause>
+    ensures { IfOk result (λ v. member letter.now value ≡ Some v) }
+{
     match (value, Component::named(letter)) {
         (Value::Later, _) => Err(Cause::KnownLater),
         (Value::Vector(vector), Some(which)) => component(vector, which),
@@ -62,14 +67,20 @@ pub fn member(value: Value, letter: &str) -> Result<Value, Cause> {
 }
 
 /// The component of a value at an index, or why there is none.
-pub fn element(value: Value, index: Value) -> Result<Value, Cause> {
-    let (Value::Vector(vector), Value::Known(index)) = (value, index) else {
-        return match (value, index) {
-            (Value::Later, _) | (_, Value::Later) => Err(Cause::KnownLater),
-            _ => Err(Cause::NotInteger),
-        };
-    };
-    match usize::try_from(integer(index)?.value()) {
+pub fn element(value: Value, index: Value) -> Result<Value, Cause>
+    ensures { IfOk result (λ v. element value index ≡ Some v) }
+{
+    match (value, index) {
+        (Value::Vector(vector), Value::Known(index)) => component_at(vector, integer(index)?),
+        (Value::Later, _) | (_, Value::Later) => Err(Cause::KnownLater),
+        _ => Err(Cause::NotInteger),
+    }
+}
+
+fn component_at(vector: Vector, index: Integer) -> Result<Value, Cause>
+    ensures { IfOk result (λ v. element (Value.Vector vector) (Value.Known (Constant.Integer index)) ≡ Some v) }
+{
+    match usize::try_from(index.value()) {
         Ok(index) => match COMPONENTS.get(index) {
             Some(which) => component(vector, *which),
             None => Err(Cause::NoSuchComponent),
@@ -78,7 +89,9 @@ pub fn element(value: Value, index: Value) -> Result<Value, Cause> {
     }
 }
 
-fn component(vector: Vector, which: Component) -> Result<Value, Cause> {
+fn component(vector: Vector, which: Component) -> Result<Value, Cause>
+    ensures { IfOk result (λ v. component_of vector which ≡ Some v) }
+{
     match vector.component(which) {
         Some(integer) => Ok(Value::Known(Constant::Integer(integer))),
         None => Err(Cause::NoSuchComponent),
@@ -86,26 +99,49 @@ fn component(vector: Vector, which: Component) -> Result<Value, Cause> {
 }
 
 /// A value in a type to which it converts, or why it doesn't. It is `NotInteger` of a type that isn't evaluated here.
-fn converted(value: Value, ty: MeasuredType) -> Result<Value, Cause> {
+fn converted(value: Value, ty: MeasuredType) -> Result<Value, Cause>
+    ensures { IfOk result (λ v. converted ty.kind value ≡ Some v) }
+{
     match (ty.kind, value) {
-        (TypeKind::Scalar(Scalar::Bool), Value::Known(Constant::Bool(_))) => Ok(value),
-        (TypeKind::Scalar(scalar), Value::Known(Constant::Integer(integer))) => match zero_of(
-            scalar,
-        ) {
-            Some(zero) => Ok(Value::Known(Constant::Integer(alike(integer, zero)?))),
-            None => float(Constant::Integer(integer), scalar),
-        },
-        (TypeKind::Scalar(scalar), Value::Known(constant)) => float(constant, scalar),
-        (TypeKind::Vector(_, scalar), Value::Vector(vector)) => match zero_of(scalar) {
-            Some(zero) => Ok(Value::Vector(vector.like(zero)?)),
-            None => Err(Cause::NotInteger),
-        },
+        (_, Value::Later) => Err(Cause::KnownLater),
+        (TypeKind::Scalar(scalar), Value::Known(constant)) => {
+            Ok(Value::Known(constant_in(constant, scalar)?))
+        }
+        (TypeKind::Vector(_, scalar), Value::Vector(vector)) => vector_in(scalar, vector),
         _ => Err(Cause::NotInteger),
     }
 }
 
+/// A vector in a type to which its components convert, or why they don't.
+pub fn vector_in(scalar: Scalar, vector: Vector) -> Result<Value, Cause>
+    ensures { IfOk result (λ v. vector_in scalar vector ≡ Some v) }
+{
+    match zero_of(scalar) {
+        Some(zero) => Ok(Value::Vector(vector.like(zero)?)),
+        None => Err(Cause::NotInteger),
+    }
+}
+
+fn constant_in(constant: Constant, scalar: Scalar) -> Result<Constant, Cause>
+    ensures { IfOk result (λ x. constant_in constant scalar ≡ Some x) }
+{
+    match constant {
+        Constant::Integer(integer) => match zero_of(scalar) {
+            Some(zero) => Ok(Constant::Integer(alike(integer, zero)?)),
+            None => float_in(scalar, constant),
+        },
+        Constant::Bool(_) => match scalar {
+            Scalar::Bool => Ok(constant),
+            _ => Err(Cause::NotInteger),
+        },
+        Constant::Float(_) => float_in(scalar, constant),
+    }
+}
+
 /// The whole part of a constant in a type of floats to which it converts, or why it doesn't.
-fn float(constant: Constant, scalar: Scalar) -> Result<Value, Cause> {
+fn float_in(scalar: Scalar, constant: Constant) -> Result<Constant, Cause>
+    ensures { IfOk result (λ x. float_in scalar constant ≡ Some x) }
+{
     let function = match (scalar, constant) {
         (Scalar::F32, Constant::Integer(Integer::Abstract(_)) | Constant::Float(_)) =>
             Function::F32,
@@ -113,13 +149,32 @@ fn float(constant: Constant, scalar: Scalar) -> Result<Value, Cause> {
             Function::F16,
         _ => return Err(Cause::NotInteger),
     };
-    Ok(Value::Known(function.apply(Arguments::One(constant))?))
+    Ok(function.apply(Arguments::One(constant))?)
+}
+
+fn known(value: Value) -> Result<Value, Cause>
+    ensures { IfOk result (λ v. known value ≡ Some v) }
+{
+    match value {
+        Value::Known(_) | Value::Vector(_) => Ok(value),
+        Value::Later => Err(Cause::KnownLater),
+    }
+}
+
+/// The value of a constant, in its type if one is declared, or why it doesn't convert.
+fn in_type(value: Value, ty: Option<MeasuredType>) -> Result<Value, Cause>
+    ensures { IfOk result (λ v. in_type ty value ≡ Some v) }
+{
+    match ty {
+        Some(ty) => converted(value, ty),
+        None => known(value),
+    }
 }
 
 impl<'t> Scope<'t> {
     /// What a constant with this value stands for, in its type if one is declared.
     pub fn constant(&self, value: &[Event], ty: Option<MeasuredType>) -> Result<Meaning, Stop>
-        ensures { (t : of_text) → (env : Environment) → (d : of_declaration) → IfOk result (IsOfSort t env d) }
+        ensures { IfOk result (IsConstantOf self.now.text (meaning_of self.now) value.now ty) }
     {
         match self.constant_value(value, ty) {
             Ok(value) => Ok(Meaning::Value(value)),
@@ -130,14 +185,11 @@ impl<'t> Scope<'t> {
         }
     }
 
-    fn constant_value(&self, value: &[Event], ty: Option<MeasuredType>) -> Result<Value, Stop> {
+    fn constant_value(&self, value: &[Event], ty: Option<MeasuredType>) -> Result<Value, Stop>
+        ensures { IfOk result (HasInitial self.now.text (meaning_of self.now) value.now ty) }
+    {
         let found = self.value_noted(value)?;
-        let converted = match (found.value, ty) {
-            (Value::Later, _) => Err(Cause::KnownLater),
-            (value, Some(ty)) => converted(value, ty),
-            (value, None) => Ok(value),
-        };
-        match converted {
+        match in_type(found.value, ty) {
             Ok(value) => Ok(value),
             Err(cause) => Err(Stop::at(found.at, cause)),
         }

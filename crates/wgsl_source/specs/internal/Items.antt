@@ -1,15 +1,20 @@
 -- The names among the items that are read of a template list.
-use Rattle.std.specs.Prelude.{◌≡◌, List, [], ◌∷◌, true, Option, Some, None, option_map}
+use Rattle.std.specs.Prelude.{◌≡◌, List, [], ◌∷◌, ◌++◌, true, Option, Some, None, option_map, Result, Ok, Err}
 use Rattle.wgsl_reader.specs.declared.token.Token.{Token}
 use Rattle.wgsl_spelling.specs.Words.{word}
 use Rattle.wgsl_syntax.specs.Address.{IsSpace, access_text, default_access, may_say}
+use Rattle.wgsl_syntax.specs.Attribute.{flag_text}
+use Rattle.wgsl_syntax.specs.Texel.{IsTexel}
 use Rattle.wgsl_syntax.specs.declared.address.AccessMode.{AccessMode}
 use Rattle.wgsl_syntax.specs.declared.address.AddressSpace.{AddressSpace}
+use Rattle.wgsl_syntax.specs.declared.attribute.AccelerationStructureFlags.{AccelerationStructureFlags}
 use Rattle.wgsl_syntax.specs.declared.rules.RuleSet.TheVariants.{Standard}
+use Rattle.wgsl_syntax.specs.declared.texel.TexelFormat.{TexelFormat}
 use Rattle.wgsl_source.specs.declared.item.Content.{Content}
 use Rattle.wgsl_source.specs.declared.item.Content.TheVariants as content
 use Rattle.wgsl_source.specs.declared.item.Item.{Item}
 use Rattle.wgsl_source.specs.declared.text.Text.{Text}
+use Rattle.wgsl_source.specs.declared.value.Value.{Value}
 
 abbrev pub with_content : Content → Token → Option (List Token) → Option (List Token)
 with_content content.Name token names = option_map (λ ts. token ∷ ts) names
@@ -29,8 +34,22 @@ pub record NamesAccess (t : Text) (item : Item) (access : AccessMode) : Type 0 w
   pub name : item.content ≡ content.Name
   pub text : word t.text.now item.token ≡ access_text access
 
+-- an item is the name of this texel format, or of this flag
+pub record NamesFormat (t : Text) (item : Item) (format : TexelFormat) : Type 0 where
+  pub name : item.content ≡ content.Name
+  pub text : IsTexel Standard (word t.text.now item.token) format
+
+pub record NamesFlag (t : Text) (item : Item) (flag : AccelerationStructureFlags) : Type 0 where
+  pub name : item.content ≡ content.Name
+  pub text : word t.text.now item.token ≡ flag_text flag
+
 -- the access mode of an address space, with that of the item behind it, if there is one
 abbrev pub HasAccess : Text → AddressSpace → List Item → AccessMode → Type 0
 HasAccess t space [] access = access ≡ default_access space
 HasAccess t space (item ∷ []) access = NamesAccess t item access × (may_say space access ≡ true)
 HasAccess t space (a ∷ b ∷ more) access = ⊥
+
+-- a value stands in place of what begins with an item
+abbrev pub IsPut : {E : Type 0} → Result Value E → Item → List Item → List Item → Type 0
+IsPut (Ok v) first old new = new ≡ old ++ record { token = first.token; content = content.Value v } ∷ []
+IsPut (Err e) first old new = ⊥

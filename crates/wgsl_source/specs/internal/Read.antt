@@ -1,5 +1,5 @@
 -- What is known of a declaration while a module is read.
-use Rattle.std.specs.Prelude.{◌≡◌, ◌≢◌, ◌⊎◌, ℕ, List, [], ◌∷◌, ◌++◌, Some, None, IsTrue, false, drop, map, slice_get, take}
+use Rattle.std.specs.Prelude.{◌≡◌, ◌≢◌, ◌⊎◌, ℕ, List, Option, [], ◌∷◌, ◌++◌, Some, None, IsTrue, false, drop, map, slice_get, take}
 use Rattle.std.specs.List.{All}
 use Rattle.wgsl_reader.specs.declared.read.Event.{Event}
 use Rattle.wgsl_spelling.specs.Words.{word}
@@ -17,11 +17,13 @@ use Rattle.wgsl_source.specs.declared.parts.End.TheVariants as e
 use Rattle.wgsl_source.specs.declared.measured.MeasuredType.{MeasuredType}
 use Rattle.wgsl_source.specs.declared.scope.Meaning.{Meaning}
 use Rattle.wgsl_source.specs.declared.scope.Scope.{Scope}
-use Rattle.wgsl_source.specs.WrittenTypes.{Environment, HasType, environment, index_of, meaning_of}
+use Rattle.wgsl_source.specs.WrittenTypes.{Environment, HasConstant, HasInitial, HasType, environment, index_of, meaning_of}
 use Rattle.wgsl_source.specs.declared.scope.Meaning.TheVariants as meaning
 use Rattle.wgsl_source.specs.declared.structure.Struct.{Struct}
 use Rattle.wgsl_source.specs.declared.text.Text.{Text}
 use Rattle.wgsl_source.specs.declared.types.Types.{Types}
+use Rattle.wgsl_source.specs.declared.value.Value.{Value}
+use Rattle.wgsl_source.specs.declared.value.Value.TheVariants as value
 
 -- the next declaration, directive or assertion of some events
 pub record IsNext (t : Text) (events : List Event) (r : Read) : Type 0 where
@@ -75,10 +77,10 @@ pub record AreAll (t : Text) (events : List Event) (ds : List Declaration) : Typ
   pub are : AreOf t sites ds
 
 -- the name of a declaration, and its members
-pub record IsFrom (t : Text) (d : Declaration) (struct : Struct) : Type 0 where
+pub record IsFrom (t : Text) (env : Environment) (d : Declaration) (struct : Struct) : Type 0 where
   pub name : struct.name.now ≡ d.name.now
   pub place : struct.place ≡ d.place
-  pub members : AreMembers t d.rest.now struct.members.items
+  pub members : AreMembers t env d.rest.now struct.members.items
 
 -- each name has the index of a declaration with the name
 abbrev pub AreNamed : List Declaration → Scope → Type 0
@@ -119,38 +121,51 @@ abbrev pub KnownAt : Declaration → Text → List Event → Type 0
 KnownAt d t whole = IsDeclaredAt t whole d
 
 -- a struct of a declaration is at this index of those that are read
-pub record IsReadAs (t : Text) (structs : List Struct) (d : Declaration) (index : ℕ) : Type 0 where
+pub record IsReadAs (t : Text) (env : Environment) (structs : List Struct) (d : Declaration) (index : ℕ) : Type 0 where
   pub readable : d.is_faulty ≡ false
   pub struct : Struct
   pub there : slice_get structs index ≡ Some struct
-  pub from : IsFrom t d struct
+  pub from : IsFrom t env d struct
 
-abbrev pub IsReadOfKind : Text → List Struct → Declaration → TypeKind → Type 0
-IsReadOfKind t structs d (kind.Struct index) = IsReadAs t structs d index
-IsReadOfKind t structs d other = ⊥
+abbrev pub IsReadOfKind : Text → Environment → List Struct → Declaration → TypeKind → Type 0
+IsReadOfKind t env structs d (kind.Struct index) = IsReadAs t env structs d index
+IsReadOfKind t env structs d other = ⊥
 
 -- aliases and structs alone stand for types, an alias for the one that is written behind its name
 abbrev pub IsTypeBy : Text → Environment → Declaration → MeasuredType → Type 0
 IsTypeBy t env d ty = (d.kind ≡ kinds.Struct) ⊎ ((d.kind ≡ kinds.Alias) × HasType t env d.rest.now ty)
 
+-- overrides and constants alone stand for values: one that is known later, or the constant's
+abbrev pub IsValueBy : Text → Environment → Declaration → Value → Type 0
+IsValueBy t env d v = ((d.kind ≡ kinds.Override) × (v ≡ value.Later)) ⊎ ((d.kind ≡ kinds.Constant) × HasConstant t env d.rest.now v)
+
 abbrev pub IsOfSort : Text → Environment → Declaration → Meaning → Type 0
 IsOfSort t env d (meaning.«Type» ty) = IsTypeBy t env d ty
+IsOfSort t env d (meaning.Value v) = IsValueBy t env d v
 IsOfSort t env d _ = Unit {0}
+
+-- what a constant stands for with this value, in its type if one is declared
+abbrev pub IsConstantOf : Text → (List ℕ → Option Meaning) → List Event → Option MeasuredType → Meaning → Type 0
+IsConstantOf t named events ty (meaning.Value v) = HasInitial t named events ty v
+IsConstantOf t named events ty (meaning.«Type» declared) = ⊥
+IsConstantOf t named events ty _ = Unit {0}
 
 -- the declaration that can be read means a type: a struct the one that is read of it
 pub record IsMeantType (t : Text) (env : Environment) (structs : List Struct) (d : Declaration) (ty : MeasuredType) : Type 0 where
   pub readable : d.is_faulty ≡ false
   pub sort : IsTypeBy t env d ty
-  pub struct : d.kind ≡ kinds.Struct → IsReadOfKind t structs d ty.kind
+  pub struct : d.kind ≡ kinds.Struct → IsReadOfKind t env structs d ty.kind
 
 -- what a declaration means
 abbrev pub IsMeant : Text → Environment → List Struct → Declaration → Meaning → Type 0
 IsMeant t env structs d (meaning.«Type» ty) = IsMeantType t env structs d ty
+IsMeant t env structs d (meaning.Value v) = (d.is_faulty ≡ false) × IsValueBy t env d v
 IsMeant t env structs d _ = Unit {0}
 
-abbrev pub IsNoType : Declaration → Meaning → Type 0
-IsNoType d (meaning.«Type» ty) = ⊥
-IsNoType d _ = Unit {0}
+abbrev pub IsNothing : Declaration → Meaning → Type 0
+IsNothing d (meaning.«Type» ty) = ⊥
+IsNothing d (meaning.Value v) = ⊥
+IsNothing d _ = Unit {0}
 
 pub data AreMeantBy (Is : Declaration → Meaning → Type 0) : List Declaration → List Meaning → Type 0 where
   none_meant : AreMeantBy Is [] []
@@ -162,9 +177,9 @@ AreMeant t env structs = AreMeantBy (IsMeant t env structs)
 abbrev pub AreAllMeant : List Declaration → Reader → Type 0
 AreAllMeant ds r = AreMeant r.scope.text (environment r.scope r.types) r.structs.items ds r.scope.meanings.items
 
--- no declaration means a type yet
-abbrev pub AreNoTypes : List Declaration → Reader → Type 0
-AreNoTypes ds r = AreMeantBy IsNoType ds r.scope.meanings.items
+-- no declaration means a type or a value yet
+abbrev pub AreNothing : List Declaration → Reader → Type 0
+AreNothing ds r = AreMeantBy IsNothing ds r.scope.meanings.items
 
 -- the declaration with this index stands for the type that it means
 abbrev pub IsMeantAt : Scope → Types → ℕ → Declaration → Type 0
@@ -175,22 +190,22 @@ pub record Means (ds : List Declaration) (old new : Reader) : Type 0 where
   pub still : AreAllMeant ds old → AreAllMeant ds new
 
 -- the structs of declarations are, in order, at these indices, or are left out under these names
-pub data AreListed (t : Text) (structs : List Struct) : List Declaration → List ℕ → List (List ℕ) → Type 0 where
-  none_listed : AreListed t structs [] [] []
+pub data AreListed (t : Text) (env : Environment) (structs : List Struct) : List Declaration → List ℕ → List (List ℕ) → Type 0 where
+  none_listed : AreListed t env structs [] [] []
   other_listed : {d : Declaration} {ds : List Declaration} {indices : List ℕ} {names : List (List ℕ)} → d.kind ≢ kinds.Struct
-      → AreListed t structs ds indices names → AreListed t structs (d ∷ ds) indices names
+      → AreListed t env structs ds indices names → AreListed t env structs (d ∷ ds) indices names
   kept_listed : {d : Declaration} {ds : List Declaration} {index : ℕ} {indices : List ℕ} {names : List (List ℕ)} → d.kind ≡ kinds.Struct
-      → IsReadAs t structs d index → AreListed t structs ds indices names → AreListed t structs (d ∷ ds) (index ∷ indices) names
+      → IsReadAs t env structs d index → AreListed t env structs ds indices names → AreListed t env structs (d ∷ ds) (index ∷ indices) names
   left_listed : {d : Declaration} {ds : List Declaration} {indices : List ℕ} {names : List (List ℕ)} → d.kind ≡ kinds.Struct
-      → AreListed t structs ds indices names → AreListed t structs (d ∷ ds) indices (d.name.now ∷ names)
+      → AreListed t env structs ds indices names → AreListed t env structs (d ∷ ds) indices (d.name.now ∷ names)
 
 abbrev pub names_of : Listed → List (List ℕ)
 names_of l = map (λ name. name.now) l.left_out.items
 
 -- these declarations are listed behind those that are
-pub record Lists (t : Text) (structs : List Struct) (ds : List Declaration) (old new : Listed) : Type 0 where
+pub record Lists (t : Text) (env : Environment) (structs : List Struct) (ds : List Declaration) (old new : Listed) : Type 0 where
   pub indices : List ℕ
   pub names : List (List ℕ)
   pub more_indices : new.in_text.items ≡ old.in_text.items ++ indices
   pub more_names : names_of new ≡ names_of old ++ names
-  pub are : AreListed t structs ds indices names
+  pub are : AreListed t env structs ds indices names

@@ -1,5 +1,5 @@
 use Rattle.std.proofs.Common.{refl, subst, sym, ◌∙◌}
-use Rattle.wgsl_source.specs.internal.Read.{AreMeantBy, IsNoType}
+use Rattle.wgsl_source.specs.internal.Read.{AreMeantBy, IsNothing}
 use Rattle.std.proofs.lemmas.Option.{slice_get-get_or}
 use Rattle.wgsl_source.proofs.Meanings.{all_unread, none_are}
 use Rattle.wgsl_source.specs.WrittenTypes.{environment}
@@ -9,7 +9,7 @@ pub loop-index-init : goal.loop-index-init
 loop-index-init c =
     let ds = c.args.declarations.now in
     let unread = c.in_ok-unread.ensures.items_if_clones_equal (λ y same. same) in
-    ((refl, refl, refl), subst (λ ms. AreMeantBy IsNoType ds ms) (sym unread) (all_unread ds), λ are. are)
+    ((refl, refl, refl), subst (λ ms. AreMeantBy IsNothing ds ms) (sym unread) (all_unread ds), λ are. are)
 
 pub loop-index-preserved : goal.loop-index-preserved
 loop-index-preserved c =

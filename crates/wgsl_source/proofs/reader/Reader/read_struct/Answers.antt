@@ -20,7 +20,7 @@ pub returns-clause-keeps : goal.returns-clause-keeps
 returns-clause-keeps c =
     let s = c.in_ok-structure.ensures in
     keeps_one c.args.declaration.now c.args.self.now _ c.in_ok-structure.structure s.grows c.in_ok-push.ensures.items
-    (record { layout = s.layout; measured = s.measured; runtime_sized = s.runtime_sized }) refl s.declared s.types
+    (record { layout = s.layout; measured = s.measured; runtime_sized = s.runtime_sized }) refl s.declared
 
 pub returns-in_err-structure-clause-keeps : goal.returns-in_err-structure-clause-keeps
 returns-in_err-structure-clause-keeps c = keeps_grown (KnownAt c.args.declaration.now) c.args.self.now _ c.in_err-structure.ensures.grows refl refl

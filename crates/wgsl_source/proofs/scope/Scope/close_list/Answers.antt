@@ -1,7 +1,7 @@
-use Rattle.wgsl_source.proofs.WrittenTypes.{list_closed}
+use Rattle.wgsl_source.proofs.WrittenTypes.{closed}
 use Rattle.wgsl_source.proofs.scope.Scope.close_list.Goals as goal
 
 pub returns-clause-closed : goal.returns-clause-closed
 returns-clause-closed c =
-    list_closed c.push.result _ _ _ _ _ _ _ _ _ _ _ c.as_slice-all.ensures.value c.behind_sign-first.ensures c.in_ok-at.ensures.0 c.in_ok-at.ensures.1 c.behind.ensures c.truncate.ensures.items
-    c.in_ok-content.ensures.listed c.push.ensures
+    closed c.push.result _ _ _ _ _ _ _ _ _ _ _ c.as_slice-all.ensures.value c.behind_sign-first.ensures.sign c.behind_sign-first.ensures.last c.in_ok-at.ensures.0 c.in_ok-at.ensures.1 c.behind.ensures
+    c.truncate.ensures.items c.in_ok-content.ensures.listed c.push.ensures

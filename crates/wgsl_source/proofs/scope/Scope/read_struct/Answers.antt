@@ -1,8 +1,7 @@
 use Rattle.std.proofs.Common.{◌↔◌, IfOk, IsSome, IsTrue, Bool, refl, sym, subst, ◌∙◌}
 use Rattle.wgsl_source.proofs.Common.{AreMembers, AreSameMembers, EndsRuntimeSized, members_of}
-use Rattle.wgsl_source.proofs.Declarations.{all_placed_typed, placed_declared}
+use Rattle.wgsl_source.proofs.Declarations.{placed_declared}
 use Rattle.wgsl_source.proofs.Members.{all_read, none_read}
-use Rattle.wgsl_source.specs.TextStructs.{AreTyped}
 use Rattle.wgsl_source.specs.WrittenTypes.{environment}
 use Rattle.wgsl_source.proofs.scope.Scope.read_struct.Goals as goal
 use Rattle.wgsl_source.proofs.scope.Scope.read_struct.Goals.{in-Ok, in-Err}
@@ -37,19 +36,6 @@ returns-clause-runtime_sized c =
 
 pub returns-clause-declared : goal.returns-clause-declared
 returns-clause-declared c =
-    let t = c.args.self.now.text in
-    let rest = c.args.declaration.now.rest.now in
-    let members = c.in_ok-members.field-0.members.items in
-    elim c.match-read_members.branch [
-      | in-Ok w ↦
-          let same = subst (λ r. IfOk r (λ l. AreSameMembers l.members.items (members_of w.deref.result.now))) (sym w.layout-is ∙ c.in_ok-members.was) w.laid_out-layout.ensures.same_members in
-          let read = subst (λ ws. AreMembers t rest (members_of ws)) (sym w.deref.ensures.value) (w.in-Ok.ensures.declared c.new-draft.ensures.members) in
-          record { name = refl; place = refl; members = placed_declared t members (members_of w.deref.result.now) rest same read }
-      | in-Err w ↦ absurd (let no = sym w.layout-is ∙ c.in_ok-members.was in cc)
-    ]
-
-pub returns-clause-types : goal.returns-clause-types
-returns-clause-types c =
     let s = c.args.self.now in
     let env = environment s c.read_members.new.types in
     let rest = c.args.declaration.now.rest.now in
@@ -57,7 +43,7 @@ returns-clause-types c =
     elim c.match-read_members.branch [
       | in-Ok w ↦
           let same = subst (λ r. IfOk r (λ l. AreSameMembers l.members.items (members_of w.deref.result.now))) (sym w.layout-is ∙ c.in_ok-members.was) w.laid_out-layout.ensures.same_members in
-          let read = subst (λ ws. AreTyped s.text env rest (members_of ws)) (sym w.deref.ensures.value) (w.in-Ok.ensures.types c.new-draft.ensures.members) in
-          all_placed_typed s.text env members (members_of w.deref.result.now) rest same read
+          let read = subst (λ ws. AreMembers s.text env rest (members_of ws)) (sym w.deref.ensures.value) (w.in-Ok.ensures.declared c.new-draft.ensures.members) in
+          record { name = refl; place = refl; members = placed_declared s.text env members (members_of w.deref.result.now) rest same read }
       | in-Err w ↦ absurd (let no = sym w.layout-is ∙ c.in_ok-members.was in cc)
     ]

@@ -1,0 +1,128 @@
+-- The values of operators, components and literals, and values in their types (WGSL, "Literals", "Expressions", "Conversion Rank").
+use Rattle.std.specs.Prelude.{◌≡◌, ℕ, ℤ, pos, negsuc, List, [], ◌∷◌, Bool, Option, Some, None, slice_get}
+use Rattle.wgsl_constants.specs.Calls.{called}
+use Rattle.wgsl_constants.specs.Conversions.{number}
+use Rattle.wgsl_constants.specs.Literals.{found, integer_of, then}
+use Rattle.wgsl_constants.specs.Values.{map_value}
+use Rattle.wgsl_constants.specs.Vectors.{alike, component, component_named, like, zero_of}
+use Rattle.wgsl_constants.specs.declared.call.Arguments.TheVariants.{One}
+use Rattle.wgsl_constants.specs.declared.call.Function.{Function}
+use Rattle.wgsl_constants.specs.declared.call.Function.TheVariants as f
+use Rattle.wgsl_constants.specs.declared.constant.Constant.{Constant}
+use Rattle.wgsl_constants.specs.declared.constant.Constant.TheVariants as constant
+use Rattle.wgsl_constants.specs.declared.integer.Integer.{Integer}
+use Rattle.wgsl_constants.specs.declared.integer.Integer.TheVariants.{Abstract}
+use Rattle.wgsl_constants.specs.declared.vector.Component.{Component}
+use Rattle.wgsl_constants.specs.declared.vector.Component.TheVariants.{First, Second, Third, Fourth}
+use Rattle.wgsl_constants.specs.declared.vector.Vector.{Vector}
+use Rattle.wgsl_reader.specs.declared.kind.Kind.{Kind}
+use Rattle.wgsl_reader.specs.declared.token.Token.{Token}
+use Rattle.wgsl_spelling.specs.Values.{binary_value, bool_of, unary_value}
+use Rattle.wgsl_spelling.specs.Words.{word}
+use Rattle.wgsl_syntax.specs.declared.scalar.Scalar.{Scalar}
+use Rattle.wgsl_syntax.specs.declared.scalar.Scalar.TheVariants as scalars
+use Rattle.wgsl_source.specs.declared.measured.MeasuredType.{MeasuredType}
+use Rattle.wgsl_source.specs.declared.measured.TypeKind.{TypeKind}
+use Rattle.wgsl_source.specs.declared.measured.TypeKind.TheVariants as kind
+use Rattle.wgsl_source.specs.declared.text.Text.{Text}
+use Rattle.wgsl_source.specs.declared.value.Value.{Value}
+use Rattle.wgsl_source.specs.declared.value.Value.TheVariants as value
+
+-- Literals
+
+-- a number: `4u`. Of a float nothing is said but that it is no integer.
+abbrev pub IsNumber : List ℕ → Constant → Type 0
+IsNumber text (constant.Integer i) = integer_of text ≡ Some i
+IsNumber text (constant.Bool b) = ⊥
+IsNumber text (constant.Float whole) = integer_of text ≡ None
+
+-- `true`, or a number
+abbrev pub IsLiteralBy : Option Bool → List ℕ → Constant → Type 0
+IsLiteralBy (Some b) text x = x ≡ constant.Bool b
+IsLiteralBy None text x = IsNumber text x
+
+abbrev pub IsLiteral : Text → Token → Value → Type 0
+IsLiteral t token (value.Known x) = IsLiteralBy (bool_of token.kind) (word t.text.now token) x
+IsLiteral t token v = ⊥
+
+-- Operators
+
+-- `-4`, `~4`, `!true`
+abbrev pub unary : Kind → Value → Option Value
+unary sign (value.Known a) = map_value value.Known (unary_value sign a)
+unary sign value.Later = Some value.Later
+unary sign other = None
+
+-- `2 * 4`, `1 < 2`: known later, if an operand is
+abbrev pub binary : Kind → Value → Value → Option Value
+binary sign value.Later b = Some value.Later
+binary sign a value.Later = Some value.Later
+binary sign (value.Known a) (value.Known b) = map_value value.Known (binary_value sign a b)
+binary sign a b = None
+
+-- Components
+
+abbrev pub component_of : Vector → Component → Option Value
+component_of v which = map_value (λ i. value.Known (constant.Integer i)) (component which v)
+
+-- `vec2(4, 1).x`
+abbrev pub member : List ℕ → Value → Option Value
+member letter (value.Vector v) = then (component_named letter) (component_of v)
+member letter other = None
+
+abbrev pub components : List Component
+components = First ∷ Second ∷ Third ∷ Fourth ∷ []
+
+abbrev pub component_at : ℤ → Option Component
+component_at (pos n) = slice_get components n
+component_at (negsuc n) = None
+
+-- `vec2(4, 1)[0]`
+abbrev pub element : Value → Value → Option Value
+element (value.Vector v) (value.Known (constant.Integer i)) = then (component_at (number i)) (component_of v)
+element v other = None
+
+-- Types of constants
+
+-- a vector in this type
+abbrev pub vector_in : Scalar → Vector → Option Value
+vector_in s v = then (zero_of s) (λ zero. map_value value.Vector (found (like zero v)))
+
+-- the function that makes a float of a constant which converts to this type
+abbrev pub float_of : Scalar → Constant → Option Function
+float_of scalars.F32 (constant.Integer (Abstract n)) = Some f.F32
+float_of scalars.F32 (constant.Float n) = Some f.F32
+float_of scalars.F16 (constant.Integer (Abstract n)) = Some f.F16
+float_of scalars.F16 (constant.Float n) = Some f.F16
+float_of s x = None
+
+abbrev pub float_in : Scalar → Constant → Option Constant
+float_in s x = then (float_of s x) (λ function. found (called function (One x)))
+
+abbrev pub integer_in : Option Integer → Scalar → Integer → Option Constant
+integer_in (Some zero) s i = map_value constant.Integer (found (alike i zero))
+integer_in None s i = float_in s (constant.Integer i)
+
+abbrev pub bool_in : Scalar → Bool → Option Constant
+bool_in scalars.Bool b = Some (constant.Bool b)
+bool_in other b = None
+
+abbrev pub constant_in : Constant → Scalar → Option Constant
+constant_in (constant.Integer i) s = integer_in (zero_of s) s i
+constant_in (constant.Bool b) s = bool_in s b
+constant_in (constant.Float n) s = float_in s (constant.Float n)
+
+-- a value in a type to which it converts
+abbrev pub converted : TypeKind → Value → Option Value
+converted (kind.Scalar s) (value.Known x) = map_value value.Known (constant_in x s)
+converted (kind.Vector n s) (value.Vector v) = vector_in s v
+converted kind v = None
+
+abbrev pub known : Value → Option Value
+known value.Later = None
+known v = Some v
+
+-- the value that a constant has of that of its expression, in its type if one is declared
+abbrev pub in_type : Option MeasuredType → Value → Option Value
+in_type (Some ty) v = converted ty.kind v
+in_type None v = known v
