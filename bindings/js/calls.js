@@ -209,15 +209,7 @@ function linkStructs(structs, variables) {
 }
 
 /** The index in a string of the character at a byte of its UTF-8. */
-function indexOfByte(text, wanted) {
-  let bytes = 0, index = 0;
-  while (bytes < wanted && index < text.length) {
-    const code = text.codePointAt(index);
-    bytes += code < 0x80 ? 1 : code < 0x800 ? 2 : code < 0x10000 ? 3 : 4;
-    index += code < 0x10000 ? 1 : 2;
-  }
-  return index;
-}
+const indexOfByte = (text, byte) => decoder.decode(encoder.encode(text).subarray(0, byte)).length;
 
 /** The compiled module, or null, which `initSync` takes in a worker. */
 export function compiledModule() {

@@ -36,41 +36,39 @@ export async function check(text, onChecked) {
 /** The type of an expression in the scope of a text, or its fault; null if an error of the text hides it. */
 export const typeIn = async (text, expression) => (await asked({ text: text.toWellFormed(), expression })).outcome;
 
-/** How many parts, up to all, have what the first ones have. */
-function countOf(all, have) {
-  let [count, most] = [0, all];
-  while (count < most) {
-    const middle = (count + most + 1) >> 1;
-    if (have(middle)) count = middle;
-    else most = middle - 1;
-  }
-  return count;
+/** How a text differs from the one that was checked: between which places of that one, and by how many characters and lines. */
+function changeTo(text) {
+  const before = last.text, least = Math.min(before.length, text.length), by = text.length - before.length;
+  let start = 0, end = before.length;
+  while (start < least && before[start] === text[start]) start++;
+  while (end > start && end + by > start && before[end - 1] === text[end + by - 1]) end--;
+  const linesOf = (whole, to) => whole.slice(start, to).split("\n").length;
+  return { start, end, by, lines: linesOf(text, end + by) - linesOf(before, end) };
 }
 
-/** What was found in the text that was checked, where it stands in this one, but for what has changed. */
-function moved(found, text) {
-  const before = last.text, least = Math.min(before.length, text.length), by = text.length - before.length;
-  if (before === text || found.length === 0) return found;
-  const start = countOf(least, (count) => text.startsWith(before.slice(0, count)));
-  const behind = countOf(least - start, (count) => text.endsWith(before.slice(before.length - count)));
-  const linesOf = (whole) => whole.slice(start, whole.length - behind).split("\n").length, lines = linesOf(text) - linesOf(before);
+let placed = { of: null }; // what was found, by where it stands in a text
+
+/** What was found last, where it stands in a text, but for what has changed there. A fault beside an error or a finding adds its notes. */
+function placedIn(text) {
+  if (placed.of === last && placed.text === text) return placed;
+  const { start, end, by, lines } = changeTo(text);
   const shifted = (place) => ({ ...place, index: place.index + by, line: place.line + lines });
   const move = (one) => (one.end.index <= start ? one : { ...shifted(one), end: shifted(one.end) });
-  const stays = found.filter(({ index, end }) => end.index <= start || index >= before.length - behind);
-  return stays.map((one) => ({ ...move(one), notes: one.notes?.map(move) }));
+  const stays = (one) => one.end.index <= start || one.index >= end;
+  const moved = (found) => (isChecked(text) ? found : found.filter(stays).map((one) => ({ ...move(one), notes: one.notes?.map(move) })));
+  const [errors, findings, faults, lets] = [last.errors, last.findings, last.faults, last.lets].map(moved);
+  const places = new Map(faults.map((fault) => [fault.index, fault])), known = new Set([...errors, ...findings].map(({ index }) => index));
+  const withNotes = (message) => ({ ...message, notes: places.get(message.index)?.notes });
+  const all = [...errors.map(withNotes), ...faults.filter(({ index }) => !known.has(index))].sort((a, b) => a.index - b.index);
+  placed = { of: last, text, errors: all, findings: findings.map(withNotes), lets };
+  return placed;
 }
 
 export const isChecked = (text) => text === last.text;
-export const letsOf = (text) => moved(last.lets, text);
+export const letsOf = (text) => placedIn(text).lets;
 
-/** What is wrong with a text: its errors, among them faults of the check, and findings. A fault beside one of these adds its notes. */
-export function problemsOf(text) {
-  const [errors, findings, faults] = [last.errors, last.findings, last.faults].map((found) => moved(found, text));
-  const places = new Map(faults.map((fault) => [fault.index, fault])), known = new Set([...errors, ...findings].map(({ index }) => index));
-  const withNotes = (message) => ({ ...message, notes: places.get(message.index)?.notes });
-  const others = faults.filter(({ index }) => !known.has(index));
-  return { errors: [...errors.map(withNotes), ...others].sort((a, b) => a.index - b.index), findings: findings.map(withNotes) };
-}
+/** What is wrong with a text: its errors, among them faults of the check, and findings. */
+export const problemsOf = placedIn;
 
 /** Whether a request has a name that a text declares. */
 export function namesShader(request, text) {
@@ -80,8 +78,8 @@ export function namesShader(request, text) {
 
 /** The expressions of a text that a test accepts by where they start and end, the shortest first; none before it is checked. */
 function partsWhere(text, accepts) {
-  const found = [], { parts, kinds } = last;
-  for (let at = 0; isChecked(text) && at < parts.length; at += 4) {
+  const found = [], { parts, kinds } = last, count = isChecked(text) ? parts.length : 0;
+  for (let at = 0; at < count; at += 4) {
     const index = parts[at], end = parts[at + 1];
     if (accepts(index, end)) found.push({ index, end: { index: end }, ...kinds[parts[at + 2]], declared: parts[at + 3] });
   }

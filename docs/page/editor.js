@@ -17,6 +17,8 @@ export function showColors() {
   draw();
 }
 
+export const lineCount = () => starts.length;
+
 /** The first line in view, and the one behind the last. */
 function linesInView() {
   const first = Math.floor(view.top / view.line);

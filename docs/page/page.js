@@ -116,7 +116,10 @@ function keyOf(struct, keys) {
 let rows = new Map(); // of variables, by what they show beside their sizes
 
 function showVariables() {
-  const put = (cell, n) => Object.assign(cell, { className: n === null ? "none" : "number", textContent: n === null ? "–" : number(n) });
+  const put = (cell, n) => {
+    const text = n === null ? "–" : number(n);
+    return cell.textContent === text ? cell : Object.assign(cell, { className: n === null ? "none" : "number", textContent: text });
+  };
   const newRow = (variable) => h("tr", {}, put(h("td"), variable.group), put(h("td"), variable.binding),
     h("td", { className: "wide" }, ...typed(variable), h("span", { className: "space" }, `var${spaceOf(variable)}`)), h("td"));
   const wanted = last.variables.map((variable, index) =>

@@ -1,11 +1,11 @@
 // What is wrong: beside the lines, under the words, and in a list.
 import { at, coded, h, number, showKept, source } from "page/dom.js";
-import { followColors, topOf } from "page/editor.js";
+import { followColors, lineCount, topOf } from "page/editor.js";
 
 const SHOWN_MARKS = 200, SHOWN_PROBLEMS = 100, SHOWN_NOTES = 3;
 const BEFORE = 48, BEFORE_ON_PHONES = 20; // characters of a line, in front of what is wrong there
 const phone = matchMedia("(max-width: 30rem)");
-let lineCount = 0, shown = [];
+let numbered = 0, shown = []; // how many lines have their number; what is marked
 let numbers = new Map(), marks = new Map(), items = new Map(); // what shows these, by what it shows
 let current = new Map(); // the messages of the items, as they stand now
 
@@ -13,7 +13,7 @@ let current = new Map(); // the messages of the items, as they stand now
 export function showProblems({ errors, findings }) {
   const all = [...errors.map((message) => ["error", message]), ...findings.map((message) => ["finding", message])], text = source.value;
   shown = all.slice(0, SHOWN_MARKS);
-  showNumbers(text);
+  showNumbers();
   const placed = shown.map(([kind, message]) => ({ kind, message, place: placeOf(message, text) }));
   showMarks(placed);
   const listed = new Map(placed.slice(0, SHOWN_PROBLEMS).map((one) => [keyOf(one), one]));
@@ -35,10 +35,10 @@ function itemOf(key, { kind, message, place }) {
   return h("li", {}, problem(kind, message, place, () => goTo(now())), ...notesOf(message, (note) => goTo(now().notes[note])));
 }
 
-function showNumbers(text) {
-  const count = text.split("\n").length;
-  if (count === lineCount) return;
-  lineCount = count;
+function showNumbers() {
+  const count = lineCount();
+  if (count === numbered) return;
+  numbered = count;
   at("numbers").firstChild.data = Array.from({ length: count }, (_, index) => index + 1).join("\n");
   requestAnimationFrame(follow);
 }

@@ -8,7 +8,7 @@ mod serving;
 
 use crate::{random::Random, tables::rows};
 use json::Json;
-use serving::{at, framed, opened, range, Client};
+use serving::{about, at, framed, opened, range, Client};
 use std::{fs, ops::Range};
 use wgsl_types_proved::{module::check, predeclared::attributes};
 
@@ -67,12 +67,9 @@ fn requests_are_answered() {
         let (found, written) = cursor.split_once(" => ").unwrap_or((&plain, &cursor));
         let start = text.find(found).expect(&cursor);
         text.replace_range(start..start + found.len(), &written.replace('‸', ""));
-        let place = at(&text, start + written.find('‸').unwrap());
         client.open("it", &text);
         let (called, word) = method.split_once(' ').unwrap_or((&method, ""));
-        let params = opened("it")
-            .with("position", Some(place))
-            .with("range", Some(range(&text, &(0..text.len()))))
+        let params = about("it", &text, start + written.find('‸').unwrap())
             .with("newName", Some(word))
             .with("context", Some(object! { "includeDeclaration": word == "all" }));
         let reply = client.request(&format!("textDocument/{called}"), params);
@@ -89,30 +86,20 @@ fn requests_are_answered() {
 #[test]
 fn faults_are_told() {
     let mut client = Client::of_bytes();
-    let list = fs::read_to_string("tests/modules/modules.txt").unwrap();
-    for (version, quoted) in list.lines().filter_map(|line| line.rsplit('\t').next()).enumerate() {
-        let text = quoted[1..quoted.len() - 1].replace("\\n", "\n").replace("\\\"", "\"");
-        match version {
-            0 => client.open("it", &text),
-            _ => client.change("it", version, None, &text),
-        }
+    client.open("it", "");
+    assert_eq!(client.faults()["diagnostics"], Json::NONE);
+    for (version, [_, _, text]) in rows("modules/modules.txt").into_iter().enumerate() {
+        client.change("it", version, None, &text);
         let expected = check(&text).faults.into_iter().map(|fault| {
-            let (here, related): (Vec<_>, Vec<_>) =
-                fault.notes.into_iter().partition(|note| note.bytes == fault.bytes);
-            let here = here.into_iter().map(|note| format!("\n{}", note.message));
-            let related = related.into_iter().map(|note| {
-                let location = object! { "uri": "it", "range": range(&text, &note.bytes) };
-                object! { "location": location, "message": note.message }
-            });
-            let related: Vec<Json> = related.collect();
-            object! {
-                "range": range(&text, &fault.bytes), "severity": 1,
-                "code": fault.rule.word().replace(' ', "-"), "source": "wgsl",
-                "message": fault.message + &here.collect::<String>(),
-            }
-            .with("relatedInformation", (!related.is_empty()).then_some(Json::List(related)))
+            let code = fault.rule.word().replace(' ', "-");
+            object! { "range": range(&text, &fault.bytes), "code": code, "message": fault.message }
         });
-        assert_eq!(client.faults()["diagnostics"], expected.collect(), "{text}");
+        let told = client.faults()["diagnostics"].clone();
+        let told = told.as_list().iter().map(|of| {
+            let message = of["message"].as_text().and_then(|message| message.lines().next());
+            object! { "range": of["range"].clone(), "code": of["code"].clone(), "message": message }
+        });
+        assert_eq!(told.collect::<Json>(), expected.collect(), "{text}");
     }
     client.tell("textDocument/didClose", opened("it"));
     assert_eq!(client.faults()["diagnostics"], Json::NONE);
@@ -228,8 +215,7 @@ fn a_long_document_is_served() {
     let told = client.faults()["diagnostics"].clone();
     assert_eq!(told.as_list().last().unwrap()["range"]["start"], at(&text, text.len() - 2));
     assert_eq!(client.read().unwrap()["error"]["code"].to_string(), "-32800");
-    let place = opened("a").with("position", Some(at(&text, text.len() - 6)));
-    assert_ne!(client.ask("hover", place), Json::Null);
+    assert_ne!(client.ask("hover", about("a", &text, text.len() - 6)), Json::Null);
     // Of a text that the next message changes no faults are told.
     client.open("a", &text);
     client.change("a", 2, None, "");
@@ -244,8 +230,7 @@ fn attributes_are_complete() {
     let mut offered = Vec::new();
     for text in ["@", "struct S { @", "fn f(@", "fn f() { @"] {
         client.open("a", text);
-        let params = opened("a").with("position", Some(at(text, text.len())));
-        let items = client.ask("completion", params);
+        let items = client.ask("completion", about("a", text, text.len()));
         offered.extend(items.as_list().iter().map(|of| of["label"].as_text().unwrap().to_string()));
     }
     offered.sort();
@@ -278,8 +263,7 @@ fn a_change_is_of_what_those_before_it_left() {
     let text = "const b = 2;\nconst a = 1;\n";
     let changes = [(range("", &(0..0)), "const b = 2;\n"), (range(text, &(23..24)), "b")];
     client.change_all("a", 2, changes.map(|(range, text)| (Some(range), text)));
-    let place = opened("a").with("position", Some(at(text, 23)));
-    assert_eq!(client.ask("definition", place)["range"], range(text, &(6..7)));
+    assert_eq!(client.ask("definition", about("a", text, 23))["range"], range(text, &(6..7)));
     assert_eq!(client.end(), Some(0));
 }
 
@@ -312,10 +296,7 @@ fn answers_depend_on_the_text_alone() {
         let byte = random.number(text.len() + 1);
         let byte = (0..=byte).rev().find(|byte| text.is_char_boundary(*byte)).unwrap();
         let method = format!("textDocument/{}", methods[random.number(methods.len())]);
-        let params = opened("a")
-            .with("position", Some(at(&text, byte)))
-            .with("newName", Some("renamed"))
-            .with("range", Some(range(&text, &(byte..text.len()))));
+        let params = about("a", &text, byte).with("newName", Some("renamed"));
         let [mine, other] =
             [&mut client, &mut fresh].map(|client| client.request(&method, params.clone()));
         for part in ["result", "error"] {

@@ -9,9 +9,9 @@ import * as wgsl from "wgsl-types-proved";
 import { assertIs, outcomeOf, testTables } from "./tables.mjs";
 
 const PACKAGE = new URL(".", pathToFileURL(createRequire(import.meta.url).resolve("wgsl-types-proved/package.json")));
-const browser = await import(new URL("index.js", PACKAGE).href);
-const { memorySize } = await import(new URL("calls.js", PACKAGE).href);
-const MODULE = readFileSync(new URL("wgsl.wasm", PACKAGE));
+const imported = (name) => import(new URL(name, PACKAGE).href);
+const [browser, { load, memorySize }, fresh] = await Promise.all(["index.js", "calls.js", "calls.js?fresh"].map(imported));
+const inline = await import("wgsl-types-proved/inline"), MODULE = readFileSync(new URL("wgsl.wasm", PACKAGE));
 
 const LIGHT = `const COUNT = 4u;
 alias Color = vec3f;
@@ -35,7 +35,10 @@ function sourceError(text) {
   return assert.fail(`it has no errors: ${text.slice(0, 60)}`);
 }
 
-testTables("calls.txt", ([expression, outcome]) => assertIs(outcomeOf(expression, { ...wgsl, LIGHT, sourceError, Buffer }), outcome, expression));
+const { version } = JSON.parse(readFileSync(new URL("package.json", PACKAGE)));
+const SCOPE = { ...wgsl, LIGHT, sourceError, Buffer, wgsl, browser, inline, fresh, packed: { version, module: new WebAssembly.Module(MODULE) } };
+
+testTables("calls.txt", ([expression, outcome]) => assertIs(outcomeOf(expression, SCOPE), outcome, expression));
 
 test("errors of requests are of the classes of the package", () => {
   assert.throws(() => wgsl.answer("unary - vec 3 f32"), wgsl.Refused);
@@ -59,9 +62,9 @@ test("if the memory can't grow, a call says so, and the next one answers, in a m
 });
 
 test("after a call that trapped the next one has a module as at the start", async () => {
-  const fresh = await import(new URL("calls.js?trap", PACKAGE).href);
-  fresh.initSync(trappingOnce());
-  for (let turn = 0; turn < 3; turn++) assert.throws(() => fresh.answer("a"), { name: "RangeError", message: /32 bits of memory are too few.*unreachable/ });
+  const trapping = await imported("calls.js?trap");
+  trapping.initSync(trappingOnce());
+  for (let turn = 0; turn < 3; turn++) assert.throws(() => trapping.answer("a"), { name: "RangeError", message: /32 bits of memory are too few.*unreachable/ });
 });
 
 /** A module whose `wgsl_answer` traps at its first call, and then has the answer "". */
@@ -94,12 +97,7 @@ test("a million calls leave the memory as it is", { timeout: 300_000 }, () => {
 test("no text makes a call fail", () => {
   const pieces = LIGHT.split(/\b/);
   let seed = 1;
-  const next = (n) => {
-    seed = (seed + 0x6d2b79f5) | 0;
-    let bits = Math.imul(seed ^ (seed >>> 15), 1 | seed);
-    bits ^= bits + Math.imul(bits ^ (bits >>> 7), 61 | bits);
-    return ((bits ^ (bits >>> 14)) >>> 0) % n;
-  };
+  const next = (n) => ((seed = (Math.imul(seed, 1103515245) + 12345) >>> 0) >>> 8) % n;
   let wrong = 0;
   for (let round = 0; round < 3000; round++) {
     const copy = [...pieces];
@@ -118,7 +116,6 @@ test("no text makes a call fail", () => {
 });
 
 test("the entry for browsers takes an address, bytes, a response, a module; a 404 is told", async () => {
-  const { load } = await import(new URL("calls.js", PACKAGE).href);
   const address = `data:application/wasm;base64,${MODULE.toString("base64")}`;
   for (const source of [MODULE, await WebAssembly.compile(MODULE), Promise.resolve(new Response(MODULE)), address, new URL(address)]) {
     await browser.init(source);
@@ -131,6 +128,12 @@ test("the entry for browsers takes an address, bytes, a response, a module; a 40
   assert.throws(() => browser.initSync("wgsl.wasm"), TypeError);
 });
 
+/** What a program in a worker tells, to which this is given. */
+function toldInWorker(program, workerData) {
+  const worker = new Worker(new URL(`data:text/javascript,${encodeURIComponent(program)}`), { workerData: { entry: new URL("index.js", PACKAGE).href, ...workerData } });
+  return new Promise((resolve, reject) => worker.once("message", resolve).once("error", reject));
+}
+
 test("an init that failed can be tried again, and two at once fetch once", async () => {
   const program = `import { parentPort, workerData } from "node:worker_threads";
     const { init, answer } = await import(workerData.entry), fetched = [];
@@ -140,26 +143,9 @@ test("an init that failed can be tried again, and two at once fetch once", async
     await Promise.all([init(), init()]);
     await init();
     parentPort.postMessage({ first, called, last: answer("size f32"), fetched });`;
-  const entry = new URL("index.js", PACKAGE).href, worker = new Worker(new URL(`data:text/javascript,${encodeURIComponent(program)}`), { workerData: { entry, bytes: MODULE } });
-  const told = await new Promise((resolve, reject) => worker.once("message", resolve).once("error", reject));
-  const wanted = new URL("wgsl.wasm", PACKAGE).href;
+  const told = await toldInWorker(program, { bytes: MODULE }), wanted = new URL("wgsl.wasm", PACKAGE).href;
   assert.match(told.first, /503/);
   assert.deepEqual(told, { first: told.first, called: "wgsl-types-proved: call `await init()` first", last: "4 4", fetched: [wanted, wanted] });
-});
-
-test("before init a call says what is missing", async () => {
-  const fresh = await import(new URL("calls.js?fresh", PACKAGE).href);
-  for (const call of [() => fresh.layouts(""), () => fresh.version(), () => fresh.answer("size f32")]) {
-    assert.throws(call, { message: "wgsl-types-proved: call `await init()` first" });
-  }
-});
-
-test("the entry with the module in it works at once, and all entries export the same", async () => {
-  const inline = await import("wgsl-types-proved/inline");
-  assert.equal(inline.standardAnswer("type f32 + f32"), "f32");
-  await inline.init();
-  const names = ["Refused", "SourceError", "Unreadable", "answer", "check", "code", "explain", "init", "initSync", "layouts", "standardAnswer", "standardExplain", "version", "view"];
-  for (const entry of [inline, browser, wgsl]) assert.deepEqual(Object.keys(entry).sort(), names);
 });
 
 test("in a worker, also with a module that is sent", async () => {
@@ -167,17 +153,7 @@ test("in a worker, also with a module that is sent", async () => {
     const { init, layouts } = await import(workerData.entry);
     await init(workerData.module);
     parentPort.postMessage(layouts("struct A { a: vec3f, b: f32 } var<private> a: A;"));`;
-  const entry = new URL("index.js", PACKAGE).href, module = await WebAssembly.compile(MODULE);
-  const worker = new Worker(new URL(`data:text/javascript,${encodeURIComponent(program)}`), { workerData: { entry, module } });
-  const told = await new Promise((resolve, reject) => worker.once("message", resolve).once("error", reject));
+  const told = await toldInWorker(program, { module: await WebAssembly.compile(MODULE) });
   assert.deepEqual(told, wgsl.layouts("struct A { a: vec3f, b: f32 } var<private> a: A;"));
   assert.equal(told.variables[0].typeTree.struct, told.structs[0]);
-});
-
-test("the version is that of the package, and the module imports nothing and has the eight calls", () => {
-  const { version } = JSON.parse(readFileSync(new URL("package.json", PACKAGE)));
-  assert.equal(wgsl.version(), version);
-  const module = new WebAssembly.Module(MODULE), functions = WebAssembly.Module.exports(module).filter(({ kind }) => kind === "function");
-  assert.deepEqual(WebAssembly.Module.imports(module), []);
-  assert.deepEqual(functions.map(({ name }) => name).sort(), ["wgsl_answer", "wgsl_explain", "wgsl_module_check", "wgsl_source_code", "wgsl_source_layout", "wgsl_standard_answer", "wgsl_standard_explain", "wgsl_version"]);
 });

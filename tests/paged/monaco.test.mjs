@@ -1,7 +1,8 @@
-// docs/monaco.js, with a stand-in for Monaco.
+// docs/monaco.js, with a stand-in for Monaco. TOP is the folder of the repository.
 import assert from "node:assert/strict";
 import test from "node:test";
 import { addWgsl } from "page/monaco.js";
+import { outcomeOf, testTables } from "./tables.mjs";
 
 const providers = {}, markers = [], TEXT = "// é🦀\nfn lit(a: vec3<f32>, b: array<vec2f, 2>) {}\nfn f(v: vec3f) { let c = mix(v, v, true) * 2; lit(v, array(v.xy, v.yz)); }";
 const modelOf = (text) => ({
@@ -43,18 +44,12 @@ test("faults are markers, with notes, again after a change, and only of WGSL", (
   assert.deepEqual(note, { resource: undefined, message: "mix(vecN<T>, vecN<T>, vecN<T>) -> vecN<T>, T: float: argument 3 is bool", ...place });
 });
 
-test("the innermost expression has its type in a hover, a call its signatures and the parameter that comes next", () => {
-  for (const [shift, type] of [[0, "vec3<f32>"], [2, "vec2<f32>"], [4, "array<vec2<f32>, 2>"]]) {
-    assert.equal(providers.provideHover(modelOf(TEXT), TEXT.indexOf("v.yz") + shift).contents[0].value, `\`${type}\`, runtime`);
-  }
-  assert.equal(providers.provideHover(modelOf(TEXT), 0), undefined);
-  for (const [text, label, parameters, active] of [
-    ["let a = mix(vec3f(1, 2, 3), b[1, 2], ", "mix(T, T, T) -> T, T: float", ["T", "T", "T"], 2],
-    ["arrayLength(", "arrayLength(ptr<storage, array<E>, A>) -> u32, E: type, A: read or read_write", ["ptr<storage, array<E>, A>"], 0],
-    ["max(max(1, 2), ", "max(T, T) -> T, T: number", ["T", "T"], 1], ["vec3(v.xy, ", "vec3(T, T, T) -> vec3<T>, T: scalar", ["T", "T", "T"], 1], ["storageBarrier(", "storageBarrier()", [], 0],
-  ]) {
-    const { signatures, activeSignature, activeParameter } = providers.provideSignatureHelp(modelOf(`fn f() { ${text}`), 9 + text.length).value, found = signatures[activeSignature];
-    assert.deepEqual([found.label, found.parameters.map(({ label: [start, end] }) => found.label.slice(start, end).trim()), activeParameter], [label, parameters, active]);
-  }
-  for (const none of ["", "g(", "(", "if(", "max(1, 2); "]) assert.equal(providers.provideSignatureHelp(modelOf(`fn f() { ${none}`), 9 + none.length), null, none);
-});
+const hover = (place, shift = 0) => providers.provideHover(modelOf(TEXT), TEXT.indexOf(place) + shift)?.contents[0].value;
+
+/** The signature that is shown first behind a text in a function, its parameters, and the index of the one that comes next; or null. */
+function signature(text) {
+  const { value } = providers.provideSignatureHelp(modelOf(`fn f() { ${text}`), 9 + text.length) ?? {}, found = value?.signatures[value.activeSignature];
+  return found ? [found.label, found.parameters.map(({ label: [start, end] }) => found.label.slice(start, end).trim()), value.activeParameter] : null;
+}
+
+testTables("monaco.txt", ([expression, outcome]) => assert.equal(outcomeOf(expression, { hover, signature }), outcome, expression));

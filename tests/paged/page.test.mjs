@@ -1,14 +1,12 @@
 // The page in a browser. PAGE is its file, BROWSER the program, TOP the folder of the repository.
 import assert from "node:assert/strict";
-import { execFileSync } from "node:child_process";
-import { mkdtempSync, readFileSync, readdirSync, rmSync, writeFileSync } from "node:fs";
-import { tmpdir } from "node:os";
+import { readFileSync } from "node:fs";
 import { join } from "node:path";
 import { test } from "node:test";
 import { pathToFileURL } from "node:url";
 import { examples } from "page/examples.js";
 import { check } from "wgsl-types-proved";
-import { HINTS, ask, fill, middleOf, mouse, settle, started, texts } from "./browser.mjs";
+import { HINTS, ask, fill, middleOf, started, texts } from "./browser.mjs";
 
 const { PAGE, TOP } = process.env, SOURCED = join(TOP, "tests/sourced");
 const WIDTHS = [320, 360, 768, 1280, 1920];
@@ -50,23 +48,6 @@ test("nothing is wider than the window, in any example, in light and dark", asyn
       }
     }
   }
-});
-
-test("the map is to scale, and each byte is in one part", async () => {
-  const page = await opened();
-  await page.run(fill("struct S { a: f32, b: vec3f, c: array<vec2f, 3>, d: f32, m: mat3x3f }"));
-  const rows = await page.run(`[...document.querySelectorAll(".map .bytes")].map((row) => [...row.children].map((part) => {
-    const outer = row.getBoundingClientRect(), box = part.getBoundingClientRect(), unit = outer.width / 16;
-    return [Math.round((box.left - outer.left) / unit), Math.round((box.right + 2 - outer.left) / unit), part.classList.contains("gap")];
-  }))`);
-  assert.deepEqual(rows[0], [[0, 4, false], [4, 16, true]]);
-  assert.deepEqual(rows[1], [[0, 12, false], [12, 16, true]]);
-  assert.deepEqual(rows[2], [[0, 8, false], [8, 16, false]]);
-  assert.deepEqual(rows[3], [[0, 8, false], [8, 12, false], [12, 16, true]]);
-  assert.deepEqual(rows.slice(4), [[[0, 12, false], [12, 16, true]], [[0, 12, false], [12, 16, true]], [[0, 12, false], [12, 16, true]]]);
-  for (const row of rows) assert.deepEqual(row.map(([from]) => from), [0, ...row.slice(0, -1).map(([, to]) => to)]);
-  assert.deepEqual(await page.run(texts(".ruler div span")), ["+0", "+4", "+8", "+12"]);
-  assert.match(await page.run("document.querySelector('.stepped').style.getPropertyValue('--step')"), /^calc\(\(100% \+ 2px\) \* 0\.333/);
 });
 
 test("all that can be reached has a name and a ring", async () => {
@@ -126,98 +107,6 @@ test("the address keeps the text and the request", async () => {
   assert.equal((await broken.run(texts(".struct h2"))).length, 3);
 });
 
-test("code is copied in each language, and a link", async () => {
-  const page = await opened();
-  await page.run("globalThis.copied = null; navigator.clipboard.writeText = async (text) => { copied = text }");
-  for (const [tab, begin] of [["rust", /^#\[allow\(non_camel/], ["numpy", /^import numpy\n\nLight = /], ["typescript", /^export const structs/], ["c", /^#pragma once/]]) {
-    await page.run(`document.getElementById("tab-${tab}").click()`);
-    await page.run("document.getElementById('copy-code').click()");
-    assert.match(await page.run("copied"), begin);
-    assert.equal(await page.run("document.getElementById('code-text').textContent"), await page.run("copied"));
-  }
-  await page.run("document.getElementById('share').click()");
-  await page.until("copied.startsWith('http')");
-  assert.equal(await page.run("copied"), await page.run("location.href"));
-  assert.equal(await page.run("document.getElementById('toast').textContent"), "Link copied");
-  await page.run("navigator.clipboard.writeText = () => Promise.reject(); addEventListener('copy', ({ target }) => (copied = target.value)); document.getElementById('copy-code').click()");
-  await page.until("document.getElementById('toast').textContent === 'C copied'");
-  assert.equal(await page.run("copied"), await page.run("document.getElementById('code-text').textContent"));
-});
-
-// Behind the structs in C nothing is packed, and the file may be included twice.
-const TWICE = '#include "twice.h"\n#include "twice.h"\nstruct after { char a; int b; };\nstatic_assert(sizeof(struct after) == 2 * sizeof(int), "");\n';
-
-/** Whether a compiler takes a text. */
-function compiles(folder, name, text, ...command) {
-  writeFileSync(join(folder, "twice.h"), text);
-  writeFileSync(join(folder, name), name.endsWith(".h") ? TWICE : text);
-  execFileSync(command[0], [...command.slice(1), name], { cwd: folder, stdio: ["ignore", "ignore", "pipe"] });
-}
-
-function isThere(program) {
-  try {
-    execFileSync(program, ["--version"], { stdio: "ignore" });
-    return true;
-  } catch {
-    console.log(`skipped: what ${program} compiles`);
-    return false;
-  }
-}
-
-test("what the page writes in C, Rust and TypeScript is compiled, and each offset is checked", async () => {
-  const page = await opened(), folder = mkdtempSync(join(tmpdir(), "code-"));
-  const compilers = [["c", "forms.h", "cc", "-std=gnu11", "-fsyntax-only", "-x", "c"], ["rust", "forms.rs", "rustc", "--edition=2021", "--crate-type=lib", "--emit=metadata", "-Adead_code"], ["typescript", "forms.ts", "tsc", "--noEmit", "--strict"]];
-  const names = "struct linux { linux: f32, unix: u32, _Bool: f32 } struct int { float: f32, static_: u32, static: u32 } struct Padded0 { type: vec3f, r: array<vec3f, 2>, self: f32, fn: mat3x3f } struct Outer { a: array<Padded0, 2>, b: array<array<vec2<f16>, 3>, 2>, int: array<int, 2> }";
-  const files = readdirSync(SOURCED).filter((name) => name.endsWith(".wgsl")).map((name) => readFileSync(join(SOURCED, name), "utf8"));
-  for (const [tab, name, ...command] of compilers) {
-    if (!isThere(command[0])) continue;
-    let count = 0;
-    for (const text of [`enable f16; ${names}`, ...files.slice(0, tab === "typescript" ? 3 : files.length)]) {
-      await page.run(fill(text));
-      await page.run(`document.getElementById("tab-${tab}").click()`);
-      const code = await page.run("document.getElementById('code').hidden ? '' : document.getElementById('code-text').textContent");
-      if (!code || /[^\x00-\x7f]/.test(code)) continue;
-      compiles(folder, name, code, ...command);
-      count++;
-    }
-    assert.ok(count >= (tab === "typescript" ? 2 : 9), `${count} in ${tab}`);
-  }
-  rmSync(folder, { recursive: true });
-});
-
-test("of many structs, those near to the window are drawn", async () => {
-  const page = await opened();
-  const shader = (type) => `alias A = ${type}; ${Array.from({ length: 2000 }, (_, i) => `struct S${i} { a: A, b: array<f32, ${i + 1}> }`).join("\n")}`;
-  await page.run(fill(shader("vec3f")));
-  const drawn = () => page.run("document.querySelectorAll('.struct .map').length");
-  assert.ok((await drawn()) < 100);
-  await page.run("document.querySelector('.struct:last-child').scrollIntoView()");
-  await page.until("document.querySelector('.struct:last-child .map')?.getBoundingClientRect().height > 100");
-  assert.ok((await drawn()) < 200);
-  const [kept, height] = await page.run("(({ style, clientHeight }) => [parseFloat(style.containIntrinsicBlockSize.replace('auto', '')), clientHeight])(document.querySelector('.struct:last-child'))");
-  assert.ok(Math.abs(kept - height) < height / 5, `${kept} pixels are kept for ${height}`);
-  await page.run(fill(shader("vec4f"))); // which those in view show, and others when they come near
-  assert.match(await page.run("document.querySelector('.struct:last-child').textContent"), /a: vec4<f32>/);
-  assert.equal(await page.run("document.querySelector('.struct').textContent"), "");
-  await page.run("document.querySelector('.struct').scrollIntoView()");
-  await page.until("document.querySelector('.struct').textContent.includes('a: vec4<f32>')");
-  const other = shader("vec4f").replace("array<f32, 1001>", "f32"); // a card that was never near
-  await page.run(`delete document.documentElement.dataset.checked; source.value = ${JSON.stringify(other)}; source.dispatchEvent(new Event("input"))`);
-  await page.until("document.documentElement.dataset.checked !== undefined");
-  await page.run(fill("struct A { a: f32 }"));
-  assert.deepEqual(await page.run(texts(".struct h2")), ["struct A"]);
-});
-
-test("no text stops the page", async () => {
-  const page = await opened();
-  for (const text of ["", "}", "struct", "\0", "struct S { a: array<vec4f, 100000000> }", "struct S { @size(4000000000) a: f32, b: f32 }",
-    `struct S { ${Array.from({ length: 2000 }, (_, i) => `m${i}: f32`).join(", ")} }`, "struct S { a: array<array<array<vec3f, 9>, 9>, 9>, b: array<S2> } struct S2 { a: mat3x3h }",
-    "enable f16; struct S { a: array<mat4x3<f16>, 3>, b: f16 }", "struct __proto__ { constructor: f32, toString: u32 } struct S { a: __proto__ }", "x".repeat(100_000), "bad\n".repeat(5000)]) {
-    await page.run(fill(text));
-    assert.deepEqual(page.errors, [], text.slice(0, 60));
-  }
-});
-
 const SELECTED = "[source.selectionStart, source.selectionEnd]";
 
 test("each fault is marked where it stands, and in the list with its notes, which lead to places; what the layouts tell too is told once", async () => {
@@ -240,26 +129,6 @@ test("each fault is marked where it stands, and in the list with its notes, whic
     await page.until("document.documentElement.dataset.checked !== undefined");
     await page.press("Enter");
     assert.deepEqual(await page.run(SELECTED), place, part);
-  }
-});
-
-test("what is told at the pointer stands above it where there is no room below", async () => {
-  const page = await opened(), text = `${"\n".repeat(7)}fn f() { let a = true+1; }`, index = text.indexOf("1;");
-  await page.look({ width: 1280, height: 300, dark: false });
-  await page.run(fill(text));
-  await mouse(page, "mouseMoved", index);
-  await settle(page);
-  assert.equal(await page.run("tip.hidden ? null : tip.textContent"), "1: AbstractInt, const expression");
-  assert.ok((await page.run("tip.getBoundingClientRect().bottom")) < (await middleOf(page, index)).y);
-});
-
-test("in a low window nothing of the editor is cut off, and the list of what is wrong scrolls", async () => {
-  const page = await opened();
-  await page.run(fill("struct S { a: x }\n".repeat(30)));
-  for (const height of [200, 440, 460, 600]) {
-    await page.look({ width: 1280, height, dark: false });
-    assert.equal(await page.run("(({ scrollHeight, clientHeight }) => scrollHeight - clientHeight)(document.querySelector('.source'))"), 0, `${height}`);
-    assert.ok((await page.run("problems.clientHeight")) >= 64, `${height}`);
   }
 });
 

@@ -10,7 +10,7 @@ import { examples } from "page/examples.js";
 import { paddingOf, piecesOfRow, runsOf } from "page/pieces.js";
 import { commentsOf, foreignOf, leftOut } from "page/wgsl.js";
 import { SourceError, code, layouts } from "wgsl-types-proved";
-import { testTables } from "./tables.mjs";
+import { assertIs, testTables } from "./tables.mjs";
 
 const { TOP, PACKAGE } = process.env;
 
@@ -48,29 +48,13 @@ const ASKED = {
   padding: (text) => [paddingOf(structOf(text))], runs: runsIn, unfolded: (text) => runsIn(text, new Set([0])), row: pieces,
   left: leftOutOf, comments: (text) => commentsOf(text).map(([from, to]) => text.slice(from, to)), link: (address) => [linkOf(address)],
   language: (text) => [foreignOf(text)?.language ?? null], words: (text) => foreignOf(text).words.map((word) => word.join(" -> ")),
-  errors: (text) => [told(text).errors.length],
+  errors: (text) => [told(text).errors.length], code: (text, language) => [code(text, language)],
+  examples: () => Object.entries(examples).map(([name, text]) => `${name} ${told(text).errors.length}`),
 };
 
 testTables("parts.txt", ([asked, text, answer]) => {
   const [what, more] = asked.split(" ");
-  assert.equal(ASKED[what](text, more).map(String).join(" | "), answer, `${asked} ${text}`);
-});
-
-test("code is that of the text, errors or not, and an error has the end of its word", () => {
-  const text = "struct linux { INT8_WIDTH: f32, is: vec3f } struct is { gen: linux }";
-  assert.match(code(text, "c"), /^#pragma once\n[^]*struct linux_ \{\n {4}float INT8_WIDTH_;\n {4}uint8_t padding_0\[12\];\n {4}float is\[3\];/);
-  assert.match(code(text, "rust"), /pub struct is \{\n {4}pub r#gen: linux,/);
-  assert.match(code(text, "numpy"), /^import numpy\n\nlinux = numpy\.dtype[^]*\nis_ = numpy\.dtype\(\{\n {4}'names': \['gen'\],\n {4}'formats': \[linux\]/);
-  assert.match(code(text, "typescript"), /^export const structs = \{\n {2}linux: \{\n {4}size: 32, align: 16,\n {4}members: \{\n {6}INT8_WIDTH: \{ offset: 0, size: 4, type: "f32" \},/);
-  assert.throws(() => code(text, "C"), { name: "RangeError", message: "wgsl-types-proved: there is no language C: it is c, rust, numpy, typescript" });
-  const faulty = "/* 🦀 */ struct A { a: Bé } struct B { b: f32 }";
-  assert.throws(() => code(faulty, "c"), (error) => {
-    assert.equal(error.code("rust").match(/struct/g).length, 1);
-    const [{ index, end }] = error.errors;
-    assert.equal(faulty.slice(index, end.index), "Bé");
-    assert.deepEqual(error.layouts.leftOut, ["A"]);
-    return error instanceof SourceError;
-  });
+  assertIs(ASKED[what](text, more).map(String).join(" | "), answer, `${asked} ${text}`);
 });
 
 test("an address has the state of the page, or a text that is not compressed", async () => {
@@ -79,11 +63,6 @@ test("an address has the state of the page, or a text that is not compressed", a
   assert.deepEqual(await stateOf(hash), state);
   assert.deepEqual(await stateOf(`#wgsl=${encodeURIComponent(state[0])}`), [state[0]]);
   for (const none of ["", "#", "#proved", "#z=%%%", hash.slice(0, 20), hash.slice(3)]) assert.equal(await stateOf(none), null, none);
-});
-
-test("of the examples one has errors", () => {
-  const counts = Object.entries(examples).map(([name, text]) => [name, told(text).errors.length]);
-  assert.deepEqual(counts, [["Lights", 0], ["What goes wrong", 3], ["Half floats", 0], ["Matrices", 0]]);
 });
 
 test("of very many structs without a layout the first ones are told", () => {

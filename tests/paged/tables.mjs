@@ -8,10 +8,11 @@ import { inspect } from "node:util";
 /** Texts that rows `= name` give names, which `{name}` is in cells behind. */
 const named = {};
 
-/** The text of a cell: in quotes as JSON has it; `«3 ab»` is `ababab`. */
+/** The text of a cell: in quotes as JSON has it; `«3 a#»` is `a0a1a2`. */
 function cellOf(cell) {
   const text = cell.startsWith('"') ? JSON.parse(cell) : cell;
-  return text.replace(/«(\d+) (.*?)»/g, (_, count, each) => each.repeat(count)).replace(/\{(\w+)\}/g, (all, name) => named[name] ?? all);
+  const repeated = (_, count, each) => Array.from({ length: count }, (_, index) => each.replaceAll("#", index)).join("");
+  return text.replace(/«(\d+) ([^»]*)»/g, repeated).replace(/\{(\w+)\}/g, (all, name) => named[name] ?? all);
 }
 
 /** Makes the tests of a table: what is done with the cells of each row, behind what is done first. */

@@ -144,6 +144,12 @@ pub fn opened(uri: &str) -> Json {
     object! { "textDocument": object! { "uri": uri } }
 }
 
+/// The parameters of a request about a byte of a document with a text, and about what is behind it.
+pub fn about(uri: &str, text: &str, byte: usize) -> Json {
+    let range = range(text, &(byte..text.len()));
+    opened(uri).with("position", Some(at(text, byte))).with("range", Some(range))
+}
+
 /// The position of a byte, counted in bytes.
 pub fn at(text: &str, byte: usize) -> Json {
     let line = text[..byte].matches('\n').count();
