@@ -171,7 +171,7 @@ IsListed t e named items ty = ⊥
 abbrev pub IsListedAs : Text → Environment → List ℕ → List Item → Content → Type 0
 IsListedAs t e name items (content.«Type» ty) = (named : PredeclaredType) × (predeclared name ≡ Some named) × IsListed t e named items ty
 IsListedAs t e name (x ∷ []) (content.Bitcast s) = (name ≡ codes "bitcast") × (ty : MeasuredType) × IsTypeSaid t e.named x.token x.content ty × IfSome s (λ scalar. ty.kind ≡ kind.Scalar scalar)
-IsListedAs t e name items content.Function = Unit {0}
+IsListedAs t e name items content.Function = predeclared name ≡ None
 IsListedAs t e name items other = ⊥
 
 abbrev pub IsListedBy : Text → Environment → Item → List Item → Content → Type 0
