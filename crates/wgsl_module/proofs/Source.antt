@@ -27,7 +27,7 @@ by_argument false s r step = ap (λ t. t.context) step
 
 by_call : (is : List Item) (at : ℕ) (s r : Stack) → CallsOf is at s r → r.context ≡ s.context
 by_call [] at s r step = ap (λ t. t.context) step
-by_call (items.Call c xs ∷ rest) at s r step = ap (λ t. t.context) step.4
+by_call (items.Call c xs ∷ rest) at s r step = ap (λ t. t.context) step.2
 by_call (other ∷ rest) at s r step = ap (λ t. t.context) step
 
 by_open : (b : Bool) (at : ℕ) (s r : Stack) → StepIf b m.Open at s r → r.context ≡ s.context

@@ -94,14 +94,31 @@ impl<'t> Checker<'t> {
             self.tell_name(Rule::Syntax, count, "is no severity")?;
             self.suggest(count, Cause::Expected(Expected::Severity))?;
         }
-        match is_attribute && self.owner != Owner::Function {
-            true => Ok(()),
-            false => self.put_filter(count),
+        if is_attribute && self.owner == Owner::Statement && !self.is_behind_filter(named) {
+            self.filters.clear();
         }
+        self.put_filter(is_attribute, count)
     }
 
-    /// `diagnostic(off, a)`: each rule is filtered with one severity (WGSL, "Diagnostic Filtering").
-    fn put_filter(&mut self, count: usize) -> Result<(), AllocError>
+    /// Whether the attribute whose name is the last of that many tokens stands right behind one that filters a rule.
+    fn is_behind_filter(&self, named: usize) -> bool {
+        for (_, severity) in &self.filters {
+            let mut end = severity.saturating_add(3);
+            if self.expressions.token_before(end).kind == Kind::Period {
+                end = end.saturating_add(2);
+            }
+            if self.expressions.token_before(end).kind == Kind::Comma {
+                end = end.saturating_add(1);
+            }
+            if named == end.saturating_add(2) {
+                return true;
+            }
+        }
+        false
+    }
+
+    /// `diagnostic(off, a)`: each rule is filtered with one severity, and by one attribute (WGSL, "Diagnostic Filtering").
+    fn put_filter(&mut self, is_attribute: bool, count: usize) -> Result<(), AllocError>
         ensures { Keeps (state self.old) (state self.new) }
     {
         let (alloc, rule) = (self.expressions.alloc, count.saturating_add(2));
@@ -114,6 +131,9 @@ impl<'t> Checker<'t> {
         match self.filters.get(name.as_str()).copied() {
             Some(first) if self.word(first) != self.word(count) => {
                 self.tell_name(Rule::Duplicate, rule, "has another severity above")
+            }
+            Some(_) if is_attribute => {
+                self.tell_name(Rule::Duplicate, rule, "is filtered twice")
             }
             Some(_) => Ok(()),
             None => {
@@ -324,9 +344,9 @@ impl<'t> Checker<'t> {
         };
         let is_integer = matches!(typed.ty, Type::AbstractInt | Type::I32 | Type::U32);
         let is_positive = matches!(name, Name::Align | Name::Size);
-        let most = match typed.ty {
-            Type::U32 => 0xFFFF_FFFF,
-            _ => 0x7FFF_FFFF,
+        let most = match name {
+            Name::BlendSrc => 1,
+            _ => most_of(&typed.ty),
         };
         let message = match part.integer() {
             _ if !is_integer || !typed.stage.is_const() => {
@@ -354,13 +374,13 @@ impl<'t> Checker<'t> {
             }
             places.push(part.place)?;
         }
-        if self.agreed(&operands, &places)?.is_none() {
+        let Some(ty) = self.agreed(&operands, &places)? else {
             return Ok(None);
-        }
+        };
         for part in parts {
             let is_early = matches!(part.typed(), Some(typed) if typed.stage.is_early());
             let size = part.integer().unwrap_or(1);
-            if !is_early || size == 0 || u32::try_from(size).is_err() {
+            if !is_early || size < 1 || size > most_of(&ty) {
                 let message =
                     "a workgroup's size is a positive 32-bit integer, known before the shader runs";
                 self.tell(Rule::EntryPoint, part.place, message)?;
@@ -368,6 +388,14 @@ impl<'t> Checker<'t> {
             }
         }
         Ok(Some(None))
+    }
+}
+
+/// The greatest integer of a type; an AbstractInt stands for an `i32`.
+fn most_of(ty: &Type) -> i64 {
+    match ty {
+        Type::U32 => 0xFFFF_FFFF,
+        _ => 0x7FFF_FFFF,
     }
 }
 

@@ -11,7 +11,7 @@ use wgsl_core::ty::{StructMemberType, StructType, Type};
 use wgsl_forms::declare::is_const_type;
 use wgsl_forms::lists::are_parameters;
 use wgsl_forms::refusal::Refusal;
-use wgsl_typing::count::is_element;
+use wgsl_typing::count::{has_override_count, is_element};
 use wgsl_typing::fault::{Place, Rule};
 use wgsl_typing::known::{Known, Signature};
 use wgsl_typing::list::DEPTH;
@@ -195,6 +195,12 @@ impl<'t> Checker<'t> {
         Ok(None)
     }
 
+    fn not_constructible<T>(&mut self, place: Place, ty: &Type) -> Result<Option<T>, AllocError>
+        ensures { Keeps (state self.old) (state self.new) }
+    {
+        self.no_field(Rule::Type, place, ty, "is not constructible")
+    }
+
     /// The number of `@size` or `@align`.
     fn bytes(&self, of: Attributes, name: Name) -> Option<u32> {
         u32::try_from(self.integer(of, name)?).ok()
@@ -217,7 +223,7 @@ impl<'t> Checker<'t> {
             None => true,
         };
         let is_large = match size {
-            Some(size) => size >= least.unwrap_or(u32::MAX),
+            Some(size) => matches!(least, Some(least) if size >= least),
             None => true,
         };
         if is_aligned && is_large {
@@ -275,6 +281,9 @@ impl<'t> Checker<'t> {
         let Some(ty) = &field.ty else {
             return Ok(None);
         };
+        if has_override_count(ty) {
+            return self.not_constructible(field.place, ty);
+        }
         let types = [ty.clone(self.expressions.alloc)?];
         let refusal = match are_parameters(&types) {
             Err(refusal) => Some(refusal),
@@ -293,8 +302,8 @@ impl<'t> Checker<'t> {
         ensures { Keeps (state self.old) (state self.new) }
     {
         match &field.ty {
-            Some(ty) if !is_const_type(ty) => {
-                self.no_field(Rule::Type, field.place, ty, "is not constructible")
+            Some(ty) if !is_const_type(ty) || has_override_count(ty) => {
+                self.not_constructible(field.place, ty)
             }
             Some(ty) if field.attributes.are_fine => Ok(Some(ty.clone(self.expressions.alloc)?)),
             _ => Ok(None),

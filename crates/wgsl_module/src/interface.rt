@@ -201,6 +201,9 @@ impl<'t> Checker<'t> {
             if self.missing("blend_src").is_some() {
                 return Some(Trouble::Disabled(source.named, "dual_source_blending"));
             }
+            if !has_location || self.integer(of, Name::Location).unwrap_or(0) != 0 {
+                return Some(Trouble::Name(source.named, "stands with @location(0)"));
+            }
         }
         if let Some(invariant) = self.attribute(of, Name::Invariant) {
             if !self.says(of, Name::Builtin, "position") {
@@ -272,6 +275,9 @@ impl<'t> Checker<'t> {
         let Some(index) = index else {
             return Ok(false);
         };
+        if !self.check_io(field, ty)? {
+            return Ok(false);
+        }
         let Some(interface) = self.take_interface(index) else {
             return Ok(true);
         };
@@ -340,8 +346,11 @@ impl<'t> Checker<'t> {
     ) -> Result<Option<Trouble>, AllocError> {
         let is_between = (side.stage == ShaderStage::Vertex) != side.is_input;
         let is_flat = self.says(of, Name::Interpolate, "flat");
+        let is_output = side.stage == ShaderStage::Fragment && !side.is_input;
         Ok(if side.stage == ShaderStage::Compute {
             Some(Trouble::Type("a compute shader has no @location"))
+        } else if !is_output && self.has(of, Name::BlendSrc) {
+            Some(Trouble::Type("@blend_src is for what a fragment shader returns"))
         } else if is_between && is_integer(ty) && !is_flat {
             Some(Trouble::Type("an integer between stages needs @interpolate(flat)"))
         } else if !self.is_free(&mut side.locations, of)? {

@@ -6,12 +6,13 @@ use crate::checker::Checker;
 use crate::interface::component_of;
 use std::alloc::AllocError;
 use wgsl_constants::constant::Constant;
+use wgsl_core::ty::Type;
 use wgsl_forms::assign::{assign_by, binary_operator, increment};
 use wgsl_forms::declare::discard;
 use wgsl_forms::flow::return_value;
 use wgsl_forms::refusal::Refusal;
 use wgsl_reader::kind::Kind;
-use wgsl_syntax::operator::AssignmentOperator;
+use wgsl_syntax::operator::{AssignmentOperator, BinaryOperator};
 use wgsl_syntax::overload::Stages;
 use wgsl_typing::constant::wrong_right;
 use wgsl_typing::expression::shown;
@@ -90,7 +91,9 @@ impl<'t> Checker<'t> {
         if !self.expressions.may_be_loaded(right.place, ty)? {
             return Ok(());
         }
+        let distance = Type::U32;
         let scalar = match binary {
+            Some(BinaryOperator::ShiftLeft | BinaryOperator::ShiftRight) => &distance,
             Some(_) => component_of(ty),
             None => ty,
         };

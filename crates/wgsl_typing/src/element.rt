@@ -20,6 +20,8 @@ use crate::structs::behind;
 use crate::value::Value;
 use std::alloc::{AllocError, Global};
 use wgsl_constants::constant::Constant;
+use wgsl_constants::integer::Integer;
+use wgsl_constants::vector::{COMPONENTS, Component};
 use wgsl_core::ty::form::Form;
 use wgsl_core::ty::{StructMemberType, StructType, Type};
 use wgsl_forms::index::type_of_index;
@@ -148,15 +150,17 @@ impl<'t> Expressions<'t> {
         let stage = x.stage.later(i.stage);
         let form = type_of_index(&x.operand(), &i.operand());
         let outcome = self.of_form(Place::last_of(bracket), form, stage)?;
-        if let (Outcome::Typed(_), Some(Value::One(Constant::Integer(integer)))) = (
-            &outcome, i.value,
-        ) {
-            if self.is_evaluated() && !is_in_bounds(&x.ty, integer.value()) {
-                self.tell(Rule::Value, at, "this index is out of bounds")?;
-                return Ok(Outcome::Faulty);
+        match (outcome, i.value) {
+            (Outcome::Typed(mut made), Some(Value::One(Constant::Integer(integer)))) => {
+                if self.is_evaluated() && !is_in_bounds(&x.ty, integer) {
+                    self.tell(Rule::Value, at, "this index is out of bounds")?;
+                    return Ok(Outcome::Faulty);
+                }
+                made.value = component_at(x.value, integer.value());
+                Ok(Outcome::Typed(made))
             }
+            (outcome, _) => Ok(outcome),
         }
-        Ok(outcome)
     }
 }
 
@@ -191,8 +195,13 @@ fn with_struct(alloc: Global, ty: &Type, of: Type) -> Result<Type, AllocError>
     })
 }
 
-/// Whether an element with this index may be there.
-fn is_in_bounds(ty: &Type, index: i64) -> bool {
+/// Whether an element with this index may be there. An AbstractInt is an index as an `i32`.
+fn is_in_bounds(ty: &Type, index: Integer) -> bool {
+    let most = match index {
+        Integer::U32(_) => i64::from(u32::MAX),
+        _ => i64::from(i32::MAX),
+    };
+    let index = index.value();
     let count = match behind(ty).form() {
         Form::Vector(count, _) => i64::from(count),
         Form::Matrix(columns, _, _) => i64::from(columns),
@@ -202,16 +211,23 @@ fn is_in_bounds(ty: &Type, index: i64) -> bool {
         },
         _ => i64::MAX,
     };
-    0 <= index && index < count
+    0 <= index && index < count && index <= most
 }
 
 /// A component of a vector whose value is known.
 pub fn component(value: Value, name: &str) -> Option<Value> {
+    component_of(value, Component::named(name)?)
+}
+
+/// The component with this index of a vector whose value is known.
+fn component_at(value: Option<Value>, index: i64) -> Option<Value> {
+    let which = COMPONENTS.get(usize::try_from(index).ok()?)?;
+    component_of(value?, *which)
+}
+
+fn component_of(value: Value, which: Component) -> Option<Value> {
     match value {
-        Value::Several(vector) => {
-            let which = wgsl_constants::vector::Component::named(name)?;
-            Some(Value::One(Constant::Integer(vector.component(which)?)))
-        }
+        Value::Several(vector) => { Some(Value::One(Constant::Integer(vector.component(which)?))) }
         Value::One(_) => None,
     }
 }
