@@ -7,8 +7,8 @@ use std::alloc::{AllocError, Global};
 use wgsl_typing::fault::{Fault, Place, Rule};
 use wgsl_typing::known::{Known, Outcome, Part};
 
-/// If nothing is told, and it is known what each given name stands for, tells the first expression that is faulty. No known text
-/// has one of which nothing else is told: with this, a text without faults has none, whatever the rest of the check does.
+/// If nothing is told, and it is known what each given name stands for, tells the first expression that is faulty: one of an array
+/// whose count is a constant that isn't computed. With this, a text without faults has none, whatever the rest of the check does.
 #[tactic(auto, using(crate::proofs::Faulty::none_faulty))]
 pub fn tell_untyped(
     alloc: Global,

@@ -134,7 +134,6 @@ impl<'t> Expressions<'t> {
         ensures stack { stack self.new ≡ stack self.old }
     {
         let Some(integer) = integer_in(typed.value) else {
-            self.tell(Rule::Value, place, "the value of this count isn't computed")?;
             return Ok(None);
         };
         let count = count_of(integer.value());
