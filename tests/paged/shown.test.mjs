@@ -114,6 +114,7 @@ test("names, types and numbers have three colours, in the text, in tables and in
     await page.run("document.getElementById('code').scrollIntoView()");
     await page.until("document.querySelector('#code-text .type')");
     assert.deepEqual([...new Set(await page.run(texts(".struct td.none")))].sort(), ["0", "–"]);
+    assert.deepEqual(await page.run(texts(".struct td:not(.wide, .number, .none)")), []);
     const kinds = ["name", "type", "number"], all = [];
     for (const part of ["#colors", ".struct td", "#variables td", "#code-text"]) {
       const found = [];
@@ -131,7 +132,8 @@ test("the colours lie on the text, wherever it is scrolled to", async () => {
   const page = await opened({ height: 800 });
   const lines = Array.from({ length: 3000 }, (_, index) => `/* ${index} */ ${" ".repeat(index % 90)}name${index}`);
   await page.run(fill(lines.join("\n")));
-  for (const [scrolled, along] of [[0, 0], [1234, 0], [40_000, 150], [1_000_000, 0], [300, 0]]) {
+  const byLine = Array.from({ length: 40 }, (_, line) => [line * 20 + 19, 0]);
+  for (const [scrolled, along] of [[0, 0], ...byLine, [1234, 0], [40_000, 150], [1_000_000, 0], [300, 0]]) {
     await page.run(`source.scrollTo(${along}, ${scrolled}); new Promise((done) => requestAnimationFrame(() => setTimeout(done, 50)))`);
     const [top, left, height, places] = await page.run(`[source.scrollTop, source.scrollLeft, source.clientHeight, (() => { const field = source.getBoundingClientRect();
       return [...document.querySelectorAll("#colors .comment")].map((comment) => { const box = comment.getBoundingClientRect();
