@@ -7,7 +7,7 @@ use Rattle.wgsl_lines.proofs.Common.{printed, printed_from, number_after, RuleSe
 use Rattle.wgsl_lines.proofs.Common.{PrintsLines, PrintsUntil, PrintsUpTo, AnswersLine, HasTaken, IsAtStart, StopsAfter, take-append_seam, RunError, Read}
 use Rattle.wgsl_lines.proofs.Common.{PrintsFirst}
 use Rattle.std.proofs.lemmas.Bool.{ne_eqb, leb-true, leb-false}
-use Rattle.wgsl_words.specs.Reader.{into_first}
+use Rattle.wgsl_replies.specs.words.Reader.{into_first}
 use Rattle.std.proofs.lemmas.List.Folds.{list_all-append}
 use Rattle.std.proofs.lemmas.Slice.Zip.{all_zipped_more}
 use Rattle.std.specs.Io.{StartsWith}

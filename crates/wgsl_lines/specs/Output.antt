@@ -5,7 +5,7 @@ use Rattle.std.specs.Io.{StartsWith}
 use Rattle.std.specs.List.{AllZip, list_all}
 use Rattle.wgsl_requests.specs.Replies.{ReplyText, nothing, answer, unreadable}
 use Rattle.wgsl_replies.specs.Replies.{IsReplyToLine}
-use Rattle.wgsl_words.specs.Reader.{pieces}
+use Rattle.wgsl_replies.specs.words.Reader.{pieces}
 use Rattle.wgsl_syntax.specs.declared.rules.RuleSet.{RuleSet}
 use Rattle.wgsl_lines.specs.declared.run.RunError.{RunError}
 use Rattle.wgsl_lines.specs.declared.run.RunError.TheVariants.{Read, Write, Memory}

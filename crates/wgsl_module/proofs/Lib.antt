@@ -6,3 +6,4 @@ mod Runs
 mod Source
 mod Unread
 mod Written
+mod typing

@@ -10,7 +10,7 @@ use Rattle.wgsl_module.specs.declared.declaration.DeclarationKind.TheVariants as
 use Rattle.wgsl_reader.specs.declared.kind.Kind.{Kind}
 use Rattle.wgsl_reader.specs.declared.read.Event.{Event}
 use Rattle.wgsl_reader.specs.declared.token.Token.{Token}
-use Rattle.wgsl_typing.specs.Words.{kind_at}
+use Rattle.wgsl_module.specs.typing.Words.{kind_at}
 
 run_of : (tokens : List Token) (kind : DeclarationKind) (body : List Event) (rest : List (List Event)) (s m r : Reading) → IsBody tokens kind body s m
     → AreRuns tokens rest m r → AreRuns tokens (body_by kind body ++ rest) s r

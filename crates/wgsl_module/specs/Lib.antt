@@ -9,3 +9,4 @@ pub mod Order
 pub mod Runs
 pub mod Statements
 pub mod Told
+pub mod typing

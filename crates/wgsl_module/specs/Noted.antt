@@ -6,21 +6,21 @@ use Rattle.wgsl_module.specs.declared.attribute.Name.{Name}
 use Rattle.wgsl_module.specs.declared.checker.Checker.{Checker}
 use Rattle.wgsl_module.specs.declared.declaration.Declaration.{Declaration}
 use Rattle.wgsl_module.specs.declared.switch.Switch.{Switch}
-use Rattle.wgsl_typing.specs.declared.known.Part.{Part}
+use Rattle.wgsl_module.specs.declared.typing.known.Part.{Part}
 use Rattle.wgsl_reader.specs.declared.kind.Kind.{Kind}
 use Rattle.wgsl_reader.specs.declared.mark.Mark.{Mark}
 use Rattle.wgsl_reader.specs.declared.mark.Mark.TheVariants as m
 use Rattle.wgsl_reader.specs.declared.read.Event.{Event}
 use Rattle.wgsl_reader.specs.declared.token.Token.{Token}
 use Rattle.wgsl_syntax.specs.Names.{named}
-use Rattle.wgsl_typing.specs.Names.{word_in}
-use Rattle.wgsl_typing.specs.Stacks.{IsOnTop, IsOperand, Stack, below, below_declared, below_initializer, below_operand, below_space, initializer_on, name_on, stack, with_parts}
-use Rattle.wgsl_typing.specs.Steps.{StepIf, is_of_expressions}
-use Rattle.wgsl_typing.specs.Taken.{below_list, in_list}
-use Rattle.wgsl_typing.specs.Types.{no_type_on}
-use Rattle.wgsl_typing.specs.Words.{kind_at}
-use Rattle.wgsl_typing.specs.declared.item.Item.{Item}
-use Rattle.wgsl_typing.specs.declared.item.Item.TheVariants as items
+use Rattle.wgsl_module.specs.typing.Names.{word_in}
+use Rattle.wgsl_module.specs.typing.Stacks.{IsOnTop, IsOperand, Stack, below, below_declared, below_initializer, below_operand, below_space, initializer_on, name_on, stack, with_parts}
+use Rattle.wgsl_module.specs.typing.Steps.{StepIf, is_of_expressions}
+use Rattle.wgsl_module.specs.typing.Taken.{below_list, in_list}
+use Rattle.wgsl_module.specs.typing.Types.{no_type_on}
+use Rattle.wgsl_module.specs.typing.Words.{kind_at}
+use Rattle.wgsl_module.specs.declared.typing.item.Item.{Item}
+use Rattle.wgsl_module.specs.declared.typing.item.Item.TheVariants as items
 
 -- What is read of a module
 

@@ -6,7 +6,7 @@ use Rattle.wgsl_module.specs.Order.{HasEach}
 use Rattle.wgsl_module.specs.declared.declaration.Declaration.{Declaration}
 use Rattle.wgsl_module.specs.declared.declaration.DeclarationKind.{DeclarationKind}
 use Rattle.wgsl_module.specs.declared.declaration.DeclarationKind.TheVariants as kinds
-use Rattle.wgsl_typing.specs.declared.known.Part.{Part}
+use Rattle.wgsl_module.specs.declared.typing.known.Part.{Part}
 use Rattle.wgsl_reader.specs.Modules.{ReadsModule}
 use Rattle.wgsl_reader.specs.Reading.{kind_of}
 use Rattle.wgsl_reader.specs.declared.module.Misread.{Misread}

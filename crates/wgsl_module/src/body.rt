@@ -7,14 +7,14 @@ use crate::attribute::Owner;
 use crate::checker::{Checker, Interface};
 use crate::declaration::DeclarationKind;
 use crate::field::Field;
+use crate::typing::expressions::Doings;
+use crate::typing::known::Typed;
+use crate::typing::stage::Stage;
 use std::alloc::{AllocError, Global};
 use wgsl_core::ty::Type;
 use wgsl_forms::declare::{is_const_type, is_let_type};
 use wgsl_reader::read::Event;
 use wgsl_reader::token::Token;
-use wgsl_typing::expressions::Doings;
-use wgsl_typing::known::Typed;
-use wgsl_typing::stage::Stage;
 
 impl<'t> Checker<'t> {
     /// Reads the bodies of the functions.

@@ -8,14 +8,14 @@ use crate::block::Loop;
 use crate::declaration::Declaration;
 use crate::field::Field;
 use crate::switch::Switch;
+use crate::typing::expressions::{Doings, Expressions};
+use crate::typing::fault::{Place, Rule};
 use std::alloc::{AllocError, Global};
 use std::collections::{BTreeMap, BTreeSet};
 use wgsl_core::ty::Type;
 use wgsl_reader::token::Token;
 use wgsl_source::fault::Cause;
 use wgsl_source::meant::{Declared, meant};
-use wgsl_typing::expressions::{Doings, Expressions};
-use wgsl_typing::fault::{Place, Rule};
 
 /// What is known of a declaration beside its name's meaning: a struct's members, or the parameters, the result and the attributes
 /// of a function.

@@ -4,6 +4,11 @@ ghost use Rattle.wgsl_module.specs.Noted.{DeclaresField, DeclaresResult, Keeps, 
 
 use crate::attribute::{Attributes, Name};
 use crate::checker::{Checker, Interface};
+use crate::typing::count::{has_override_count, is_element};
+use crate::typing::fault::{Place, Rule};
+use crate::typing::known::{Known, Signature};
+use crate::typing::list::DEPTH;
+use crate::typing::structs::{Declared, short, size_and_align};
 use std::alloc::AllocError;
 use std::collections::BTreeMap;
 use wgsl_core::ty::form::Form;
@@ -11,11 +16,6 @@ use wgsl_core::ty::{StructMemberType, StructType, Type};
 use wgsl_forms::declare::is_const_type;
 use wgsl_forms::lists::are_parameters;
 use wgsl_forms::refusal::Refusal;
-use wgsl_typing::count::{has_override_count, is_element};
-use wgsl_typing::fault::{Place, Rule};
-use wgsl_typing::known::{Known, Signature};
-use wgsl_typing::list::DEPTH;
-use wgsl_typing::structs::{Declared, short, size_and_align};
 
 /// A member of a struct, a parameter or the result of a function.
 #[derive(Drop)]

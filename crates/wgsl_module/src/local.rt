@@ -1,14 +1,14 @@
 // Values, and variables of functions (WGSL, "Value Declarations", "Variable Declarations").
 ghost use Rattle.std.specs.Prelude.{◌≡◌, IfOk};
 ghost use Rattle.wgsl_module.specs.Noted.{DeclaresValue, DeclaresVariable, Keeps, reading, standing, state};
-ghost use Rattle.wgsl_typing.specs.Stacks.{below_space};
+ghost use Rattle.wgsl_module.specs.typing.Stacks.{below_space};
 
 use crate::checker::Checker;
+use crate::typing::fault::Rule;
+use crate::typing::known::Typed;
 use std::alloc::AllocError;
 use wgsl_forms::declare::Declaration;
 use wgsl_syntax::address::AddressSpace;
-use wgsl_typing::fault::Rule;
-use wgsl_typing::known::Typed;
 
 impl<'t> Checker<'t> {
     /// Gives a value its name in the innermost block.

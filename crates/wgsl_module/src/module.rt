@@ -13,6 +13,11 @@ use crate::control::faults_of_control;
 use crate::declaration::{Declaration, DeclarationKind, declarations};
 use crate::misread::faults_of_misread;
 use crate::told::{in_order, joined};
+use crate::typing::expressions::{Expressions, Named};
+use crate::typing::extension::is_required;
+use crate::typing::fault::{Fault, Place, Rule};
+use crate::typing::known::{Known, Part, Typed};
+use crate::typing::scope::{Bound, Locals};
 use crate::untyped::{are_known, tell_untyped};
 use crate::walk::Link;
 use std::alloc::{AllocError, Global};
@@ -23,11 +28,6 @@ use wgsl_reader::module::{Misread, Module, read_module};
 use wgsl_reader::token::Token;
 use wgsl_source::fault::{Cause, ExtensionKind};
 use wgsl_source::text::{Text, tokens};
-use wgsl_typing::expressions::{Expressions, Named};
-use wgsl_typing::extension::is_required;
-use wgsl_typing::fault::{Fault, Place, Rule};
-use wgsl_typing::known::{Known, Part, Typed};
-use wgsl_typing::scope::{Bound, Locals};
 
 /// What is found of a module: its expressions, and what is wrong.
 #[derive(Drop)]

@@ -4,6 +4,13 @@ ghost use Rattle.wgsl_module.specs.Noted.{AssignsIf, Keeps, Uses, state};
 
 use crate::checker::Checker;
 use crate::interface::component_of;
+use crate::typing::constant::wrong_right;
+use crate::typing::expression::shown;
+use crate::typing::fault::{Place, Rule};
+use crate::typing::known::{Outcome, Part, Typed};
+use crate::typing::stage::Stage;
+use crate::typing::structs::behind;
+use crate::typing::value::Value;
 use std::alloc::AllocError;
 use wgsl_constants::constant::Constant;
 use wgsl_core::ty::Type;
@@ -14,13 +21,6 @@ use wgsl_forms::refusal::Refusal;
 use wgsl_reader::kind::Kind;
 use wgsl_syntax::operator::{AssignmentOperator, BinaryOperator};
 use wgsl_syntax::overload::Stages;
-use wgsl_typing::constant::wrong_right;
-use wgsl_typing::expression::shown;
-use wgsl_typing::fault::{Place, Rule};
-use wgsl_typing::known::{Outcome, Part, Typed};
-use wgsl_typing::stage::Stage;
-use wgsl_typing::structs::behind;
-use wgsl_typing::value::Value;
 
 impl<'t> Checker<'t> {
     /// `const_assert x;`

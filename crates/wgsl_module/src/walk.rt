@@ -3,10 +3,10 @@ ghost use Rattle.std.specs.Prelude.{◌≡◌, ℕ, ◌≤◌, ◌<◌, IfOk, So
 ghost use Rattle.wgsl_module.specs.Order.{HasEach, IsOrder, StaysDone, is_done};
 
 use crate::checker::Checker;
+use crate::typing::fault::Place;
 use std::alloc::AllocError;
 use wgsl_reader::kind::Kind;
 use wgsl_reader::mark::Mark;
-use wgsl_typing::fault::Place;
 
 /// How a declaration leads to another one.
 #[derive(Clone, Copy)]

@@ -1,1 +1,2 @@
 pub mod OneReply
+pub mod words

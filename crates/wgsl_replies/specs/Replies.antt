@@ -7,10 +7,10 @@ use Rattle.wgsl_requests.specs.declared.reply.TextKind.{TextKind}
 use Rattle.wgsl_requests.specs.declared.reply.TextKind.TheVariants as kinds
 use Rattle.wgsl_syntax.specs.declared.rules.RuleSet.{RuleSet}
 use Rattle.wgsl_syntax.specs.declared.rules.RuleSet.TheVariants.{Ported, Standard}
-use Rattle.wgsl_words.specs.Requests.{IsReplyToLine as IsReplyToWords}
-use Rattle.wgsl_words.specs.Reader.{words_of}
+use Rattle.wgsl_replies.specs.words.Requests.{IsReplyToLine as IsReplyToWords}
+use Rattle.wgsl_replies.specs.words.Reader.{words_of}
 use Rattle.wgsl_expressions.specs.Typing.{IsBlank as has_no_tokens, IsStandardReply}
-use Rattle.wgsl_words.specs.declared.why.Why.TheVariants as words
+use Rattle.wgsl_replies.specs.declared.words.why.Why.TheVariants as words
 use Rattle.wgsl_expressions.specs.declared.why.Why.TheVariants as line
 use Rattle.wgsl_replies.specs.declared.request.Reply.{Reply}
 use Rattle.wgsl_replies.specs.declared.request.Why.{Why}

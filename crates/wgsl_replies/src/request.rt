@@ -2,17 +2,17 @@
 ghost use Rattle.std.specs.Prelude.{◌≡◌, ◌<◌, ◌≤◌, [], IfOk, IsOkAnd, IsUtf8, Ok, length, true};
 ghost use Rattle.wgsl_requests.specs.Replies as replies;
 ghost use Rattle.wgsl_requests.specs.Replies.{IsUnreadable, Replies};
-ghost use Rattle.wgsl_words.specs.Reader.{words_of};
+ghost use Rattle.wgsl_replies.specs.words.Reader.{words_of};
 ghost use Rattle.wgsl_replies.specs.Replies.{IsBlank, IsExplanation, IsReplyTo, IsReplyToLine, reply_text, too_long, why_seen};
 
+use crate::words::reply::write_reply as write_reply_to_words;
+use crate::words::why::{Why as WordsWhy, write_why as write_why_of_words};
 use std::alloc::{AllocError, Global};
 use wgsl_expressions::reply::write_standard_reply;
 use wgsl_expressions::why::{Why as LineWhy, write_why as write_why_of_line};
 use wgsl_requests::reply::has_line_feed;
 pub use wgsl_requests::reply::{LONGEST, ReplyKind, TextKind};
 use wgsl_syntax::rules::RuleSet;
-use wgsl_words::reply::write_reply as write_reply_to_words;
-use wgsl_words::why::{Why as WordsWhy, write_why as write_why_of_words};
 
 /// The reply to a request.
 #[derive(Drop)]

@@ -3,7 +3,7 @@ use Rattle.wgsl_module.specs.Declarations.{written}
 use Rattle.wgsl_module.specs.Noted.{Reading, State, reading, state}
 use Rattle.wgsl_module.specs.Runs.{IsDeclaration}
 use Rattle.wgsl_module.proofs.checker.Checker.declare.Goals as goal
-use Rattle.wgsl_typing.specs.Stacks.{Stack, stack}
+use Rattle.wgsl_module.specs.typing.Stacks.{Stack, stack}
 
 pub returns-clause-declaration : goal.returns-clause-declaration
 returns-clause-declaration c =

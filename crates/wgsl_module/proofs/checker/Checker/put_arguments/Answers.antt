@@ -4,8 +4,8 @@ use Rattle.wgsl_module.specs.Arguments.{AreArguments, attribute_names, takes_nam
 use Rattle.wgsl_module.specs.Noted.{HasArguments, Reading, attribute_on, noted, reading, state}
 use Rattle.wgsl_module.proofs.checker.Checker.put_arguments.Goals as goal
 use Rattle.wgsl_syntax.specs.Names.{named}
-use Rattle.wgsl_typing.specs.Names.{word_in}
-use Rattle.wgsl_typing.specs.Stacks.{below, name_on, stack, with_items}
+use Rattle.wgsl_module.specs.typing.Names.{word_in}
+use Rattle.wgsl_module.specs.typing.Stacks.{below, name_on, stack, with_items}
 
 pub returns-clause-arguments : goal.returns-clause-arguments
 returns-clause-arguments c =

@@ -1,0 +1,6 @@
+use Rattle.wgsl_replies.proofs.words.Common.{◌∙◌, w32}
+use Rattle.wgsl_replies.proofs.words.Numbers.{signed_parsed}
+use Rattle.wgsl_replies.proofs.words.number.signed_short.Goals as goal
+
+pub returns : goal.returns
+returns c = c.ok.ensures.value ∙ signed_parsed w32 c.args.word.now (λ e. cc (c.if-begins_with_plus.false, c.begins_with_plus.ensures.1 e)) _ c.parse.ensures.value.0
