@@ -1,7 +1,7 @@
 -- What stands in the brackets of an attribute (WGSL, "Attributes").
-use Rattle.std.specs.Prelude.{◌≡◌, ℕ, List, [], ◌∷◌, ◌++◌, Bool, true, false, Option, Some, None, codes}
-use Rattle.wgsl_module.specs.declared.attribute.Name.{Name}
-use Rattle.wgsl_module.specs.declared.attribute.Name.TheVariants as name
+use Rattle.std.specs.Prelude.{◌≡◌, ℕ, List, [], ◌∷◌, ◌++◌, Bool, true, false, Option, Some, None}
+use Rattle.wgsl_source.specs.declared.attribute.Name.{Name}
+use Rattle.wgsl_source.specs.declared.attribute.Name.TheVariants as name
 use Rattle.wgsl_module.specs.declared.typing.known.Part.{Part}
 use Rattle.wgsl_reader.specs.declared.kind.Kind.{Kind}
 use Rattle.wgsl_reader.specs.declared.kind.Kind.TheVariants.{Const}
@@ -9,14 +9,6 @@ use Rattle.wgsl_module.specs.typing.Names.{Context}
 use Rattle.wgsl_module.specs.typing.Stacks.{IsOperand}
 use Rattle.wgsl_module.specs.declared.typing.item.Item.{Item}
 use Rattle.wgsl_module.specs.declared.typing.item.Item.TheVariants as items
-
--- the attributes by their names
-abbrev pub attribute_names : List (Name × List ℕ)
-attribute_names =
-    (name.Align, codes "align") ∷ (name.Binding, codes "binding") ∷ (name.BlendSrc, codes "blend_src") ∷ (name.Builtin, codes "builtin") ∷
-    (name.Compute, codes "compute") ∷ (name.Fragment, codes "fragment") ∷ (name.Group, codes "group") ∷ (name.Id, codes "id") ∷
-    (name.Interpolate, codes "interpolate") ∷ (name.Invariant, codes "invariant") ∷ (name.Location, codes "location") ∷
-    (name.MustUse, codes "must_use") ∷ (name.Size, codes "size") ∷ (name.Vertex, codes "vertex") ∷ (name.WorkgroupSize, codes "workgroup_size") ∷ []
 
 -- Names in the brackets of these, and of what is no attribute, are no expressions: `@builtin(position)`, `@stage(vertex)`
 abbrev pub takes_names : Option Name → Bool

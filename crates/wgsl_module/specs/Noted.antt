@@ -1,8 +1,9 @@
 -- What the events of statements and declarations take of the expressions in front of them, and which of these are noted
 -- (WGSL, "Statements", "Variable and Value Declarations", "Attributes").
 use Rattle.std.specs.Prelude.{◌≡◌, ℕ, List, [], ◌∷◌, ◌++◌, Bool, true, false, Option, Some, None, map, reverse}
-use Rattle.wgsl_module.specs.Arguments.{AreArguments, attribute_names, is_const, takes_names}
-use Rattle.wgsl_module.specs.declared.attribute.Name.{Name}
+use Rattle.wgsl_module.specs.Arguments.{AreArguments, is_const, takes_names}
+use Rattle.wgsl_source.specs.Attributes.{attribute_names}
+use Rattle.wgsl_source.specs.declared.attribute.Name.{Name}
 use Rattle.wgsl_module.specs.declared.checker.Checker.{Checker}
 use Rattle.wgsl_module.specs.declared.declaration.Declaration.{Declaration}
 use Rattle.wgsl_module.specs.declared.switch.Switch.{Switch}

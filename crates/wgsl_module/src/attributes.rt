@@ -1,10 +1,10 @@
 // Attributes where they stand, and what their arguments say (WGSL, "Attributes"). Only tested.
-ghost use Rattle.std.specs.Prelude.{[], ◌≡◌, IfOk, option_map, reverse};
+ghost use Rattle.std.specs.Prelude.{[], ◌≡◌, IfOk, reverse};
 ghost use Rattle.wgsl_module.specs.Arguments.{AreArguments, IsArgument, is_const, takes_names, word_of};
 ghost use Rattle.wgsl_module.specs.Noted.{AttributeIf, HasArguments, Keeps, OpensAttribute, source, state};
 ghost use Rattle.wgsl_module.specs.typing.Words.{kind_at};
 
-use crate::attribute::{Attribute, Attributes, Name, Owner, Row, row_named};
+use crate::attribute::{Attribute, Attributes, Name, Owner, attribute_named};
 use crate::checker::Checker;
 use crate::typing::fault::Rule;
 use crate::typing::item::Item;
@@ -207,11 +207,11 @@ impl<'t> Checker<'t> {
     {
         let list = self.expressions.take_list()?;
         let named = self.expressions.take_name();
-        let row = row_named(self.expressions.word(named));
-        self.pending.have_stage = self.pending.have_stage || is_stage(row);
+        let name = attribute_named(self.expressions.word(named));
+        self.pending.have_stage = self.pending.have_stage || is_stage(name);
         let has_list = count > named;
-        let arguments = self.arguments(takes_names(row), has_list, list)?;
-        self.put_attribute(row, named, &arguments)?;
+        let arguments = self.arguments(takes_names(name), has_list, list)?;
+        self.put_attribute(name, named, &arguments)?;
         self.note_values(arguments.parts)
     }
 
@@ -261,15 +261,15 @@ impl<'t> Checker<'t> {
     /// Keeps an attribute that has no fault.
     fn put_attribute(
         &mut self,
-        row: Option<Row>,
+        name: Option<Name>,
         named: usize,
         arguments: &Arguments,
     ) -> Result<(), AllocError>
         ensures { Keeps (state self.old) (state self.new) }
     {
-        let name = match self.allowed(row, arguments) {
+        let name = match self.allowed(name, arguments) {
             Ok(name) => name,
-            Err(_) if row.is_none() => return self.refuse_unknown(named, arguments),
+            Err(_) if name.is_none() => return self.refuse_unknown(named, arguments),
             Err(message) => return self.refuse_attribute(named, message),
         };
         if name == Name::Interpolate && !self.is_interpolation(arguments) {
@@ -295,20 +295,19 @@ impl<'t> Checker<'t> {
     }
 
     /// The attribute, if it may stand here with its arguments, whatever their values. Otherwise what is wrong with it.
-    fn allowed(&self, row: Option<Row>, arguments: &Arguments) -> Result<Name, &'static str> {
+    fn allowed(&self, name: Option<Name>, arguments: &Arguments) -> Result<Name, &'static str> {
         if self.owner == Owner::Statement {
             return Err("can't stand in front of a statement");
         }
-        let Some((name, owner, least, most)) = row else {
+        let Some(name) = name else {
             return Err("can't stand here");
         };
         let count = arguments.parts.len().saturating_add(arguments.names.len());
-        let is_of_member = owner == Owner::InOut && self.owner == Owner::Member;
-        if owner != self.owner && !is_of_member {
+        if !name.may_stand(self.owner) {
             Err("can't stand here")
         } else if self.has(self.pending, name) {
             Err("stands here twice")
-        } else if count < least || count > most || arguments.is_empty_list {
+        } else if !name.takes(count) || arguments.is_empty_list {
             Err("takes another number of arguments")
         } else if name == Name::Builtin && arguments.names.is_empty() {
             Err("takes a name")
@@ -408,21 +407,18 @@ fn word_of(takes_names: bool, item: &Item) -> Option<usize>
 }
 
 /// Whether an attribute is that of a stage, or one that WGSL doesn't have.
-fn is_stage(row: Option<Row>) -> bool {
+fn is_stage(name: Option<Name>) -> bool {
     matches!(
-        row,
-        None | Some((Name::Vertex | Name::Fragment | Name::Compute, _, _, _))
+        name,
+        None | Some(Name::Vertex | Name::Fragment | Name::Compute)
     )
 }
 
 /// Whether names are no expressions in the brackets of the attribute, or of one that WGSL doesn't have.
-fn takes_names(row: Option<Row>) -> bool
-    ensures { result ≡ takes_names (option_map (λ row. row.0) row) }
+fn takes_names(name: Option<Name>) -> bool
+    ensures { result ≡ takes_names name }
 {
-    matches!(
-        row,
-        None | Some((Name::Builtin | Name::Interpolate, _, _, _))
-    )
+    matches!(name, None | Some(Name::Builtin | Name::Interpolate))
 }
 
 fn is_const(kind: Kind) -> bool

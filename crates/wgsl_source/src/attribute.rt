@@ -18,13 +18,20 @@ use wgsl_reader::mark::Mark;
 use wgsl_reader::read::Event;
 use wgsl_reader::token::Token;
 
-/// What an attribute belongs to.
+/// What attributes stand in front of.
 #[derive(Clone, Copy, PartialEq, Eq)]
 pub enum Owner {
+    /// A member of a struct.
     Member,
+    /// A parameter or the result of an entry point: such an attribute also stands in front of a member.
+    InOut,
+    /// A parameter or the result of another function: it has none.
+    Plain,
     Variable,
     Override,
     Function,
+    /// A statement: `@diagnostic` alone stands there.
+    Statement,
 }
 
 /// An attribute of WGSL.
@@ -63,7 +70,7 @@ pub struct Attributes {
 }
 
 /// The attribute with this name.
-fn attribute_named(word: &str) -> Option<Name>
+pub fn attribute_named(word: &str) -> Option<Name>
     ensures { result ≡ named attribute_names word.now }
 {
     match word {
@@ -88,29 +95,30 @@ fn attribute_named(word: &str) -> Option<Name>
 }
 
 impl Name {
-    /// Whether the attribute may stand there.
-    fn may_stand(self, owner: Owner) -> bool {
+    /// What it stands in front of.
+    fn owner(self) -> Owner {
         match self {
-            Name::Align
-            | Name::BlendSrc
-            | Name::Builtin
-            | Name::Interpolate
-            | Name::Invariant
-            | Name::Location
-            | Name::Size => owner == Owner::Member,
-            Name::Binding | Name::Group => owner == Owner::Variable,
-            Name::Id => owner == Owner::Override,
+            Name::Align | Name::Size => Owner::Member,
+            Name::BlendSrc | Name::Builtin | Name::Interpolate | Name::Invariant | Name::Location =>
+                Owner::InOut,
+            Name::Binding | Name::Group => Owner::Variable,
+            Name::Id => Owner::Override,
             Name::Compute
             | Name::Diagnostic
             | Name::Fragment
             | Name::MustUse
             | Name::Vertex
-            | Name::WorkgroupSize => owner == Owner::Function,
+            | Name::WorkgroupSize => Owner::Function,
         }
     }
 
+    /// Whether the attribute may stand there.
+    pub fn may_stand(self, owner: Owner) -> bool {
+        self.owner() == owner || self.owner() == Owner::InOut && owner == Owner::Member
+    }
+
     /// Whether the attribute takes this number of arguments.
-    fn takes(self, count: usize) -> bool {
+    pub fn takes(self, count: usize) -> bool {
         match self {
             Name::Compute | Name::Fragment | Name::Invariant | Name::MustUse | Name::Vertex => {
                 count == 0

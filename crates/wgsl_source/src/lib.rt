@@ -3,7 +3,7 @@
 #![tactic(auto)]
 
 mod argument;
-mod attribute;
+pub mod attribute;
 mod call;
 mod check;
 mod declaration;
