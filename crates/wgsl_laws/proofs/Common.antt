@@ -28,5 +28,5 @@ pub use Rattle.wgsl_syntax.specs.declared.address.AddressSpace.TheVariants.{Func
 pub use Rattle.wgsl_syntax.specs.declared.call.Shape.{Shape}
 pub use Rattle.wgsl_syntax.specs.declared.scalar.Scalar.{Scalar}
 pub use Rattle.wgsl_syntax.specs.declared.scalar.Scalar.TheVariants.{AbstractFloat, AbstractInt, Bool, F16, F32, F64, I32, I64, U32, U64}
-pub use Rattle.wgsl_replies.proofs.words.Common.{scalar, struct, ◌*◌, ◌≤◌}
+pub use Rattle.wgsl_replies.proofs.Common.{scalar, struct, ◌*◌, ◌≤◌}
 pub use native.Mathlib.Decide.{ℕ_discrete}

@@ -19,4 +19,4 @@ pub use Rattle.wgsl_requests.proofs.Shared.{AllocError, ap, append-nil, append_a
 pub use Rattle.wgsl_requests.proofs.Shared.{Option, refl, Result, rules, RuleSet, Some, string_bytes, subst, suc, sym, take, true, zero, ℕ, [], ◌++◌, ◌+◌, ◌-◌}
 pub use Rattle.wgsl_requests.proofs.Shared.{◌<◌, ◌∙◌, ◌∷◌, ◌≡◌}
 pub use Rattle.wgsl_requests.specs.Replies.{answer, ReplyText, unreadable, WritesReply}
-pub use Rattle.wgsl_replies.proofs.words.Common.{common_steps, drop, drop-drop, nat_eq as eqb, get_or, length-drop, nil_from_length, not, prefix_len, ◌==◌, ◌≢◌, ◌≤◌}
+pub use Rattle.wgsl_replies.proofs.Common.{common_steps, drop, drop-drop, nat_eq as eqb, get_or, length-drop, nil_from_length, not, prefix_len, ◌==◌, ◌≢◌, ◌≤◌}

@@ -1,2 +1,7 @@
+pub mod Common
+pub mod Cuts
+pub mod Numbers
 pub mod OneReply
-pub mod words
+pub mod OneReplyToWords
+pub mod Reading
+pub mod Within

@@ -4,7 +4,7 @@ use Rattle.wgsl_requests.specs.Replies.{ReplyText, has_line_feed, unreadable}
 use Rattle.wgsl_requests.proofs.OneAnswer.{HasOne, EachAnswered}
 use Rattle.wgsl_syntax.specs.declared.rules.RuleSet.{RuleSet}
 use Rattle.wgsl_syntax.specs.declared.rules.RuleSet.TheVariants.{Ported, Standard}
-use Rattle.wgsl_replies.proofs.words.OneReply.{one_to_line}
+use Rattle.wgsl_replies.proofs.OneReplyToWords.{one_to_line}
 use Rattle.wgsl_expressions.proofs.OneOutcome.{one_standard_reply}
 use Rattle.wgsl_replies.specs.Replies.{IsReplyTo, IsReplyToLine}
 

@@ -165,7 +165,7 @@ impl<'t> Expressions<'t> {
 }
 
 /// The member with an index, alone.
-#[tactic(auto, using(crate::proofs::typing::OnlyMember::none_only, crate::proofs::typing::OnlyMember::one_only))]
+#[tactic(auto, using(crate::proofs::OnlyMember::none_only, crate::proofs::OnlyMember::one_only))]
 fn only_member(
     alloc: Global,
     members: &[StructMemberType],

@@ -61,7 +61,7 @@ impl<'t> Locals<'t> {
     }
 
     /// The index of what a name stands for.
-    #[tactic(auto, using(crate::proofs::typing::Scopes::named_view))]
+    #[tactic(auto, using(crate::proofs::Scopes::named_view))]
     pub fn index_of(&self, name: &'t str) -> Option<usize>
         ensures { result ≡ named name.now (scope_view self.now) }
     {
@@ -76,7 +76,7 @@ impl<'t> Locals<'t> {
     }
 
     /// Whether the innermost block declares the name.
-    #[tactic(auto, using(crate::proofs::typing::Scopes::here_cut))]
+    #[tactic(auto, using(crate::proofs::Scopes::here_cut))]
     pub fn is_here(&self, name: &'t str) -> bool
         ensures { result ≡ is_here name.now (scope_view self.now) }
     {

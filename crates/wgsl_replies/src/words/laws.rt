@@ -17,7 +17,7 @@ pub fn one_type()
 {}
 
 /// A line has at most one reply.
-#[tactic(auto, using(crate::proofs::words::OneReply::one_line_reply))]
+#[tactic(auto, using(crate::proofs::OneReplyToWords::one_line_reply))]
 pub fn one_reply()
     ensures { (bytes : List ℕ) (a b : ReplyText)
         → IsReplyToLine bytes a → IsReplyToLine bytes b → a ≡ b }

@@ -14,7 +14,7 @@ pub fn begins_with_plus(word: &str) -> bool
     !bytes.is_empty() && bytes[0] == b'+'
 }
 
-#[tactic(auto, using(crate::proofs::words::Numbers::plus_is_none, crate::proofs::words::Numbers::parsed), unfolding(crate::words::specs::Names::small))]
+#[tactic(auto, using(crate::proofs::Numbers::plus_is_none, crate::proofs::Numbers::parsed), unfolding(crate::words::specs::Names::small))]
 pub fn small(word: &str) -> Option<u8>
     ensures { result ≡ spec.small word.now }
 {
@@ -25,7 +25,7 @@ pub fn small(word: &str) -> Option<u8>
 }
 
 /// A number of at most 32 bits.
-#[tactic(auto, using(crate::proofs::words::Numbers::plus_is_none, crate::proofs::words::Numbers::parsed), unfolding(crate::words::specs::Names::medium))]
+#[tactic(auto, using(crate::proofs::Numbers::plus_is_none, crate::proofs::Numbers::parsed), unfolding(crate::words::specs::Names::medium))]
 pub fn medium(word: &str) -> Option<u32>
     ensures { result ≡ spec.medium word.now }
 {
@@ -36,7 +36,7 @@ pub fn medium(word: &str) -> Option<u32>
 }
 
 /// A number of at most 64 bits.
-#[tactic(auto, using(crate::proofs::words::Numbers::plus_is_none, crate::proofs::words::Numbers::parsed), unfolding(crate::words::specs::Names::long))]
+#[tactic(auto, using(crate::proofs::Numbers::plus_is_none, crate::proofs::Numbers::parsed), unfolding(crate::words::specs::Names::long))]
 pub fn long(word: &str) -> Option<u64>
     ensures { result ≡ spec.long word.now }
 {
@@ -57,7 +57,7 @@ pub fn count(word: &str) -> Option<Option<usize>>
 }
 
 /// A number of elements. Where `usize` has 32 bits, larger ones can't be read.
-#[tactic(auto, using(crate::proofs::words::Numbers::plus_is_none, crate::proofs::words::Numbers::parsed), unfolding(crate::words::specs::Names::long))]
+#[tactic(auto, using(crate::proofs::Numbers::plus_is_none, crate::proofs::Numbers::parsed), unfolding(crate::words::specs::Names::long))]
 fn size(word: &str) -> Option<usize>
     ensures { result ≡ spec.long word.now }
 {
@@ -117,7 +117,7 @@ fn short_number(word: &str) -> Option<LiteralInstance>
 }
 
 /// A signed number of at most 64 bits.
-#[tactic(auto, using(crate::proofs::words::Numbers::plus_is_no_sign))]
+#[tactic(auto, using(crate::proofs::Numbers::plus_is_no_sign))]
 fn signed(word: &str) -> Option<i64>
     ensures { result ≡ templates.signed_below (2 ^ 63) word.now }
 {
@@ -128,7 +128,7 @@ fn signed(word: &str) -> Option<i64>
 }
 
 /// A signed number of at most 32 bits.
-#[tactic(auto, using(crate::proofs::words::Numbers::plus_is_no_sign))]
+#[tactic(auto, using(crate::proofs::Numbers::plus_is_no_sign))]
 fn signed_short(word: &str) -> Option<i32>
     ensures { result ≡ templates.signed_below (2 ^ 31) word.now }
 {

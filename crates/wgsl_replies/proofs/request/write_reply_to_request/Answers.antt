@@ -6,7 +6,7 @@ use Rattle.wgsl_requests.specs.declared.reply.ReplyKind.{ReplyKind}
 use Rattle.wgsl_requests.specs.declared.reply.ReplyKind.TheVariants as k
 use Rattle.wgsl_syntax.specs.declared.rules.RuleSet.{RuleSet}
 use Rattle.wgsl_syntax.specs.declared.rules.RuleSet.TheVariants.{Ported, Standard}
-use Rattle.wgsl_replies.proofs.words.Cuts.{blank-no_line_feed}
+use Rattle.wgsl_replies.proofs.Cuts.{blank-no_line_feed}
 use Rattle.wgsl_replies.specs.Replies.{IsBlank, IsReplyTo, IsReplyToLine}
 use Rattle.wgsl_replies.proofs.request.write_reply_to_request.Goals.{else-request-le-LONGEST-via-then-request-le-LONGEST+else-has_line_feed, else-request-le-LONGEST-via-else-request-le-LONGEST}
 use Rattle.wgsl_replies.proofs.request.write_reply_to_request.Goals as goal

@@ -1,6 +1,6 @@
 use Rattle.std.proofs.Common.{sym, ap, ◌∙◌}
-use Rattle.wgsl_module.proofs.typing.Common.{view, typed_array, answer_view, unbuilt_view, IsType}
-use Rattle.wgsl_module.proofs.typing.Operands.{answered_err, answered_ok, by_parts}
+use Rattle.wgsl_module.proofs.Common.{view, typed_array, answer_view, unbuilt_view, IsType}
+use Rattle.wgsl_module.proofs.Operands.{answered_err, answered_ok, by_parts}
 use Rattle.wgsl_module.proofs.typing.ask.array_of.Goals as goal
 
 -- src/ask.rt:80:1

@@ -1,8 +1,8 @@
 use Rattle.std.proofs.Common.{Ok, sym, ap, ◌∙◌}
 use Rattle.wgsl_module.specs.typing.Counts.{unless_counted}
-use Rattle.wgsl_module.proofs.typing.Common.{answer_view, unbuilt_view, IsType}
-use Rattle.wgsl_module.proofs.typing.Operands.{answered_err, inferred_by_parts}
-use Rattle.wgsl_module.proofs.typing.Outcomes.{inferred_unless}
+use Rattle.wgsl_module.proofs.Common.{answer_view, unbuilt_view, IsType}
+use Rattle.wgsl_module.proofs.Operands.{answered_err, inferred_by_parts}
+use Rattle.wgsl_module.proofs.Outcomes.{inferred_unless}
 use Rattle.wgsl_module.proofs.typing.ask.inferred_of.Goals as goal
 
 pub returns-in-Ok : goal.returns-in-Ok

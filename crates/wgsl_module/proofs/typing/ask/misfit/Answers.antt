@@ -1,6 +1,6 @@
 use Rattle.std.proofs.Common.{sym, ap, ◌∙◌, map}
-use Rattle.wgsl_module.proofs.typing.Common.{view, function, list_fits, answer_view}
-use Rattle.wgsl_module.proofs.typing.Operands.{by_parts, none_told, one_told}
+use Rattle.wgsl_module.proofs.Common.{view, function, list_fits, answer_view}
+use Rattle.wgsl_module.proofs.Operands.{by_parts, none_told, one_told}
 use Rattle.wgsl_module.proofs.typing.ask.misfit.Goals as goal
 
 -- src/ask.rt:64:1

@@ -1,5 +1,5 @@
 use Rattle.std.proofs.Common.{◌≡◌, ◌++◌, drop, map}
-use Rattle.wgsl_module.proofs.typing.Common.{given, shown, typed_parts}
+use Rattle.wgsl_module.proofs.Common.{given, shown, typed_parts}
 use Rattle.wgsl_module.proofs.typing.ask.operands_of.Given as goal
 
 -- the operands so far, and those of the parts that are left

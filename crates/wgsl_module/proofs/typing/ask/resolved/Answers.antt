@@ -1,6 +1,6 @@
 use Rattle.std.proofs.Common.{option_map}
-use Rattle.wgsl_module.proofs.typing.Common.{view, callee_view}
-use Rattle.wgsl_module.proofs.typing.Operands.{resolved_by_parts}
+use Rattle.wgsl_module.proofs.Common.{view, callee_view}
+use Rattle.wgsl_module.proofs.Operands.{resolved_by_parts}
 use Rattle.wgsl_module.proofs.typing.ask.resolved.Goals as goal
 
 -- src/ask.rt:110:1

@@ -1,6 +1,6 @@
 use Rattle.std.proofs.Common.{sym, ap, ◌∙◌}
-use Rattle.wgsl_module.proofs.typing.Common.{view, constructed, answer_view}
-use Rattle.wgsl_module.proofs.typing.Operands.{by_parts, none_told, one_told}
+use Rattle.wgsl_module.proofs.Common.{view, constructed, answer_view}
+use Rattle.wgsl_module.proofs.Operands.{by_parts, none_told, one_told}
 use Rattle.wgsl_module.proofs.typing.ask.unfit.Goals as goal
 
 pub returns-in-Ok : goal.returns-in-Ok

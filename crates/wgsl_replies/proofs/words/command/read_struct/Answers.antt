@@ -1,4 +1,4 @@
-use Rattle.wgsl_replies.proofs.words.Common.{◌≡◌, ◌∙◌, ℕ, List, None, ap, option_and_then, refl, Members, WgslType, struct, view}
+use Rattle.wgsl_replies.proofs.Common.{◌≡◌, ◌∙◌, ℕ, List, None, ap, option_and_then, refl, Members, WgslType, struct, view}
 use Rattle.wgsl_core.proofs.Views.{not_struct}
 use Rattle.wgsl_replies.specs.words.Requests.{a_struct}
 use Rattle.wgsl_replies.proofs.words.command.read_struct.Goals as goal

@@ -1,5 +1,5 @@
-use Rattle.wgsl_replies.proofs.words.Common.{false, ◌∙◌, codes, sym, ends_text}
-use Rattle.wgsl_replies.proofs.words.Numbers.{no_long_suffix}
+use Rattle.wgsl_replies.proofs.Common.{false, ◌∙◌, codes, sym, ends_text}
+use Rattle.wgsl_replies.proofs.Numbers.{no_long_suffix}
 use Rattle.wgsl_replies.proofs.words.number.number.Goals as goal
 
 pub returns-in_default-strip_suffix : goal.returns-in_default-strip_suffix

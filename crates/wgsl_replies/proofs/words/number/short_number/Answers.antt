@@ -1,5 +1,5 @@
-use Rattle.wgsl_replies.proofs.words.Common.{false, arith, codes, rules, common_steps, ends_text}
-use Rattle.wgsl_replies.proofs.words.Numbers.{no_short_suffix}
+use Rattle.wgsl_replies.proofs.Common.{false, arith, codes, rules, common_steps, ends_text}
+use Rattle.wgsl_replies.proofs.Numbers.{no_short_suffix}
 use Rattle.wgsl_replies.proofs.words.number.short_number.Goals as goal
 
 pub returns-in_err-signed : goal.returns-in_err-signed

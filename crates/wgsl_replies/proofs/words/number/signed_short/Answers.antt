@@ -1,5 +1,5 @@
-use Rattle.wgsl_replies.proofs.words.Common.{◌∙◌, w32}
-use Rattle.wgsl_replies.proofs.words.Numbers.{signed_parsed}
+use Rattle.wgsl_replies.proofs.Common.{◌∙◌, w32}
+use Rattle.wgsl_replies.proofs.Numbers.{signed_parsed}
 use Rattle.wgsl_replies.proofs.words.number.signed_short.Goals as goal
 
 pub returns : goal.returns

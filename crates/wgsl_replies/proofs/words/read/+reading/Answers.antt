@@ -1,7 +1,7 @@
-use Rattle.wgsl_replies.proofs.words.Common.{◌≡◌, ◌+◌, ◌-◌, ◌<◌, Some, [], ◌∷◌, ◌++◌, map, refl, sym, ap, length-set, ◌∙◌, arith, rules, map-append, around, scalar}
-use Rattle.wgsl_replies.proofs.words.Common.{member_view, view, scalar_named, long, a_word, one, optional, layer_named, member_at, type_at, type_from}
+use Rattle.wgsl_replies.proofs.Common.{◌≡◌, ◌+◌, ◌-◌, ◌<◌, Some, [], ◌∷◌, ◌++◌, map, refl, sym, ap, length-set, ◌∙◌, arith, rules, map-append, around, scalar}
+use Rattle.wgsl_replies.proofs.Common.{member_view, view, scalar_named, long, a_word, one, optional, layer_named, member_at, type_at, type_from}
 use Rattle.wgsl_core.specs.declared.ty.Type.{the_lemmas}
-use Rattle.wgsl_replies.proofs.words.Reading.{in_layers, missed, next_layer, no_count, no_layer, no_members, not_opened, nothing_in_layer, nothing_inside, opened, opened_layer, reads_as, scalar_in_layer, struct_found, take_set, times_end, times_next, times_none, times_start}
+use Rattle.wgsl_replies.proofs.Reading.{in_layers, missed, next_layer, no_count, no_layer, no_members, not_opened, nothing_in_layer, nothing_inside, opened, opened_layer, reads_as, scalar_in_layer, struct_found, take_set, times_end, times_next, times_none, times_start}
 use Rattle.wgsl_replies.proofs.words.read.+reading.Goals as goal
 
 pub read_type-returns-in_err-word-clause-read : goal.read_type-returns-in_err-word-clause-read

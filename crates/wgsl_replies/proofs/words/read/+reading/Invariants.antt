@@ -1,7 +1,7 @@
-use Rattle.wgsl_replies.proofs.words.Common.{◌≡◌, ◌<◌, ◌≤◌, ◌+◌, ◌-◌, ◌*◌, length, map, take, member_view, times, in_layer, member_at, type_at, type_from}
+use Rattle.wgsl_replies.proofs.Common.{◌≡◌, ◌<◌, ◌≤◌, ◌+◌, ◌-◌, ◌*◌, length, map, take, member_view, times, in_layer, member_at, type_at, type_from}
 use denote.Text.{Utf8}
 use denote.Shadow.{shadow}
-use Rattle.wgsl_replies.proofs.words.Reading.{in_front, in_layers}
+use Rattle.wgsl_replies.proofs.Reading.{in_front, in_layers}
 use Rattle.wgsl_replies.proofs.words.read.+reading.Given as goal
 
 -- The words that are left: what takes none before it calls another counts one more than that.

@@ -1,5 +1,5 @@
 use Rattle.std.proofs.Common.{refl}
-use Rattle.wgsl_replies.proofs.words.Reading.{alone_type, left_over}
+use Rattle.wgsl_replies.proofs.Reading.{alone_type, left_over}
 use Rattle.wgsl_replies.proofs.words.read.read_last_type.Goals as goal
 
 pub returns-then-is_empty : goal.returns-then-is_empty

@@ -1,5 +1,5 @@
-use Rattle.wgsl_replies.proofs.words.Common.{view, last, type_at}
-use Rattle.wgsl_replies.proofs.words.Reading.{no_first, no_second, none_given, pair_found}
+use Rattle.wgsl_replies.proofs.Common.{view, last, type_at}
+use Rattle.wgsl_replies.proofs.Reading.{no_first, no_second, none_given, pair_found}
 use Rattle.wgsl_replies.proofs.words.read.read_pair.Goals as goal
 
 pub returns-in_err-first : goal.returns-in_err-first

@@ -1,5 +1,5 @@
-use Rattle.wgsl_replies.proofs.words.Common.{◌≡◌, ◌∷◌, ◌++◌, [], map, subst, sym, ap, ◌∙◌, rules, map-append, view, type_at, type_from}
-use Rattle.wgsl_replies.proofs.words.Reading.{Half, all_start, half_end, half_next, half_none, none_given}
+use Rattle.wgsl_replies.proofs.Common.{◌≡◌, ◌∷◌, ◌++◌, [], map, subst, sym, ap, ◌∙◌, rules, map-append, view, type_at, type_from}
+use Rattle.wgsl_replies.proofs.Reading.{Half, all_start, half_end, half_next, half_none, none_given}
 use Rattle.wgsl_replies.proofs.words.read.read_types.Goals as goal
 
 pub loop-word-init : goal.loop-word-init

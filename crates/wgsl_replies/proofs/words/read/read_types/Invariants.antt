@@ -1,5 +1,5 @@
-use Rattle.wgsl_replies.proofs.words.Common.{length, map, view}
-use Rattle.wgsl_replies.proofs.words.Reading.{Half}
+use Rattle.wgsl_replies.proofs.Common.{length, map, view}
+use Rattle.wgsl_replies.proofs.Reading.{Half}
 use Rattle.wgsl_replies.proofs.words.read.read_types.Given as goal
 
 -- the types that were read, and the words after them

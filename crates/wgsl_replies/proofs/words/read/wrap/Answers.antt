@@ -1,5 +1,5 @@
-use Rattle.wgsl_replies.proofs.words.Common.{◌≡◌, ◌-◌, ap, arith, sym, ◌∙◌, take, rules, around, view, wrapped}
-use Rattle.wgsl_replies.proofs.words.Reading.{wrapped-take}
+use Rattle.wgsl_replies.proofs.Common.{◌≡◌, ◌-◌, ap, arith, sym, ◌∙◌, take, rules, around, view, wrapped}
+use Rattle.wgsl_replies.proofs.Reading.{wrapped-take}
 use Rattle.wgsl_replies.proofs.words.read.wrap.Goals as goal
 
 pub loop-left-preserved : goal.loop-left-preserved

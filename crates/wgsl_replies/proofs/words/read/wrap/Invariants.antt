@@ -1,4 +1,4 @@
-use Rattle.wgsl_replies.proofs.words.Common.{◌≡◌, ◌≤◌, length, take, view, wrapped}
+use Rattle.wgsl_replies.proofs.Common.{◌≡◌, ◌≤◌, length, take, view, wrapped}
 use Rattle.wgsl_replies.proofs.words.read.wrap.Given as goal
 
 -- the layers that are left around the type so far are all of them around the innermost

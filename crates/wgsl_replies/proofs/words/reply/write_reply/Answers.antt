@@ -1,4 +1,4 @@
-use Rattle.wgsl_replies.proofs.words.Cuts.{blank_text}
+use Rattle.wgsl_replies.proofs.Cuts.{blank_text}
 use Rattle.wgsl_replies.proofs.words.reply.write_reply.Goals as goal
 
 pub returns-in_default-clause-no_words : goal.returns-in_default-clause-no_words

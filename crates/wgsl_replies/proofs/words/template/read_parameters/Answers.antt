@@ -1,6 +1,6 @@
-use Rattle.wgsl_replies.proofs.words.Common.{◌≡◌, ◌∷◌, ◌++◌, [], map, subst, sym, ap, ◌∙◌, rules, map-append, bytes_eq-Decides, parameter_view}
+use Rattle.wgsl_replies.proofs.Common.{◌≡◌, ◌∷◌, ◌++◌, [], map, subst, sym, ap, ◌∙◌, rules, map-append, bytes_eq-Decides, parameter_view}
 use Rattle.wgsl_replies.specs.words.Templates.{parameter_from}
-use Rattle.wgsl_replies.proofs.words.Reading.{Part, part_end, part_missing, part_next, part_none, part_start, missed}
+use Rattle.wgsl_replies.proofs.Reading.{Part, part_end, part_missing, part_next, part_none, part_start, missed}
 use Rattle.wgsl_replies.proofs.words.template.read_parameters.Goals as goal
 
 pub loop-word-init : goal.loop-word-init

@@ -1,5 +1,5 @@
-use Rattle.wgsl_replies.proofs.words.Common.{length, map, parameter_view}
-use Rattle.wgsl_replies.proofs.words.Reading.{Part}
+use Rattle.wgsl_replies.proofs.Common.{length, map, parameter_view}
+use Rattle.wgsl_replies.proofs.Reading.{Part}
 use Rattle.wgsl_replies.proofs.words.template.read_parameters.Given as goal
 
 -- the parameters that were read, and the words after them

@@ -1,6 +1,6 @@
 use native.Mathlib.Numerals.{unary_clauses}
-use Rattle.wgsl_replies.proofs.words.Common.{arith, ap, ◌∙◌, length, not, refl, take_while, common_steps, is_separator}
-use Rattle.wgsl_replies.proofs.words.Cuts.{first_word_is, gap_boundary, no_first_word, word_boundary, words_of-blank}
+use Rattle.wgsl_replies.proofs.Common.{arith, ap, ◌∙◌, length, not, refl, take_while, common_steps, is_separator}
+use Rattle.wgsl_replies.proofs.Cuts.{first_word_is, gap_boundary, no_first_word, word_boundary, words_of-blank}
 use Rattle.wgsl_replies.proofs.words.words.first_word.Goals as goal
 
 pub range_from-rest-requires : goal.range_from-rest-requires

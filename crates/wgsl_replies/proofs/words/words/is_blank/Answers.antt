@@ -1,5 +1,5 @@
-use Rattle.wgsl_replies.proofs.words.Common.{◌≡◌, ◌∙◌, ap, arith, length, take_while, length-prefix_len, common_steps, is_separator}
-use Rattle.wgsl_replies.proofs.words.Cuts.{blank-gap, words_of-blank}
+use Rattle.wgsl_replies.proofs.Common.{◌≡◌, ◌∙◌, ap, arith, length, take_while, length-prefix_len, common_steps, is_separator}
+use Rattle.wgsl_replies.proofs.Cuts.{blank-gap, words_of-blank}
 use Rattle.wgsl_replies.proofs.words.words.is_blank.Goals as goal
 
 pub returns : goal.returns

@@ -7,8 +7,8 @@ use Rattle.wgsl_module.specs.typing.Parameters.{IsCount, of_first}
 use Rattle.wgsl_module.specs.typing.Stacks.{IsOperand, below}
 use Rattle.wgsl_module.specs.typing.Templates.{is_element}
 use Rattle.wgsl_module.specs.typing.Types.{no_type_on, type_of_item}
-use Rattle.wgsl_module.proofs.typing.Parameters.{counted}
-use Rattle.wgsl_module.proofs.typing.Taken.{count_taken}
+use Rattle.wgsl_module.proofs.Parameters.{counted}
+use Rattle.wgsl_module.proofs.Taken.{count_taken}
 use Rattle.wgsl_module.proofs.typing.expressions.Expressions.array.Goals as goal
 
 pub returns-in-Some-2-clause-answer : goal.returns-in-Some-2-clause-answer

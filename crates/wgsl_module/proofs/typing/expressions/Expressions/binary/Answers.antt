@@ -1,6 +1,6 @@
 use Rattle.std.proofs.Common.{◌∷◌, [], None, option_map, sym, ap, subst, ◌∙◌}
-use Rattle.wgsl_module.proofs.typing.Common.{view, a_binary, resolved_view, later, Stage, HasResult, loaded}
-use Rattle.wgsl_module.proofs.typing.Outcomes.{faulty_overloaded, overloaded}
+use Rattle.wgsl_module.proofs.Common.{view, a_binary, resolved_view, later, Stage, HasResult, loaded}
+use Rattle.wgsl_module.proofs.Outcomes.{faulty_overloaded, overloaded}
 use Rattle.wgsl_module.proofs.typing.expressions.Expressions.binary.Goals as goal
 
 pub returns-in-None-clause-answer : goal.returns-in-None-clause-answer

@@ -3,7 +3,7 @@ use Rattle.wgsl_module.specs.declared.typing.known.Known.{Known}
 use Rattle.wgsl_module.specs.typing.Names.{with_known}
 use Rattle.wgsl_module.specs.typing.Stacks.{Stack, stack, with_declared}
 use Rattle.wgsl_module.specs.declared.typing.expressions.Named.{Named}
-use Rattle.wgsl_module.proofs.typing.GivenBack.{given_back}
+use Rattle.wgsl_module.proofs.GivenBack.{given_back}
 use Rattle.wgsl_module.proofs.typing.expressions.Expressions.call_declared.Goals as goal
 
 pub returns-clause-stack : goal.returns-clause-stack

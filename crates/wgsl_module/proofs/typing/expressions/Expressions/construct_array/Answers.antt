@@ -1,6 +1,6 @@
 use Rattle.std.proofs.Common.{IfOk, subst}
-use Rattle.wgsl_module.proofs.typing.Common.{view, typed_array, Stage, IsFound, stage_of, types_of}
-use Rattle.wgsl_module.proofs.typing.Outcomes.{made_in}
+use Rattle.wgsl_module.proofs.Common.{view, typed_array, Stage, IsFound, stage_of, types_of}
+use Rattle.wgsl_module.proofs.Outcomes.{made_in}
 use Rattle.wgsl_module.proofs.typing.expressions.Expressions.construct_array.Goals as goal
 
 pub returns-clause-answer : goal.returns-clause-answer

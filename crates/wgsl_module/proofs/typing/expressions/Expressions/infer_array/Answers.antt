@@ -1,6 +1,6 @@
 use Rattle.std.proofs.Common.{IfOk, subst}
-use Rattle.wgsl_module.proofs.typing.Common.{Stage, IsFound}
-use Rattle.wgsl_module.proofs.typing.Outcomes.{inferred_in}
+use Rattle.wgsl_module.proofs.Common.{Stage, IsFound}
+use Rattle.wgsl_module.proofs.Outcomes.{inferred_in}
 use Rattle.wgsl_module.proofs.typing.expressions.Expressions.infer_array.Goals as goal
 
 pub returns-clause-answer : goal.returns-clause-answer

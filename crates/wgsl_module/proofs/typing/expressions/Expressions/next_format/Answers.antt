@@ -1,7 +1,7 @@
 use Rattle.std.proofs.Common.{reverse}
 use Rattle.wgsl_module.specs.typing.Parameters.{format_called}
 use Rattle.wgsl_module.specs.typing.Stacks.{stack}
-use Rattle.wgsl_module.proofs.typing.Parameters.{first_called}
+use Rattle.wgsl_module.proofs.Parameters.{first_called}
 use Rattle.wgsl_module.proofs.typing.expressions.Expressions.next_format.Goals as goal
 
 pub returns-in_ok-tell_among-clause-answer : goal.returns-in_ok-tell_among-clause-answer

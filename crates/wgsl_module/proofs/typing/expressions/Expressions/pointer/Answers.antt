@@ -5,7 +5,7 @@ use Rattle.wgsl_module.specs.typing.Parameters.{access_listed, of_first, space_o
 use Rattle.wgsl_module.specs.typing.Stacks.{below}
 use Rattle.wgsl_module.specs.typing.Templates.{IsLimited, pointer_listed}
 use Rattle.wgsl_module.specs.typing.Types.{type_of_item}
-use Rattle.wgsl_module.proofs.typing.Parameters.{pointed}
+use Rattle.wgsl_module.proofs.Parameters.{pointed}
 use Rattle.wgsl_module.proofs.typing.expressions.Expressions.pointer.Goals as goal
 
 pub returns-in-Some-of-clause-answer : goal.returns-in-Some-of-clause-answer

@@ -1,6 +1,6 @@
 use Rattle.std.proofs.Common.{refl, sym, ap, arith}
 use Rattle.wgsl_module.specs.typing.Stacks.{stack, with_declared}
-use Rattle.wgsl_module.proofs.typing.GivenBack.{past_end, set_known}
+use Rattle.wgsl_module.proofs.GivenBack.{past_end, set_known}
 use Rattle.wgsl_module.proofs.typing.expressions.Expressions.put_known.Goals as goal
 
 pub returns-then-index-len : goal.returns-then-index-len

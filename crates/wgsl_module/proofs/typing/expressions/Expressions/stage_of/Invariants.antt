@@ -1,5 +1,5 @@
 use Rattle.std.proofs.Common.{◌≡◌, drop}
-use Rattle.wgsl_module.proofs.typing.Common.{later, stage_of}
+use Rattle.wgsl_module.proofs.Common.{later, stage_of}
 use Rattle.wgsl_module.proofs.typing.expressions.Expressions.stage_of.Given as goal
 
 -- the stage so far, and that of the arguments that are left

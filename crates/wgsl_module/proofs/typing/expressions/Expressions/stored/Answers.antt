@@ -4,7 +4,7 @@ use Rattle.std.proofs.lemmas.List.{length-reverse}
 use Rattle.wgsl_module.specs.typing.Names.{context}
 use Rattle.wgsl_module.specs.typing.Parameters.{access_of, format_of, of_first}
 use Rattle.wgsl_module.specs.typing.Stacks.{below}
-use Rattle.wgsl_module.proofs.typing.Parameters.{stored, stored_by_two}
+use Rattle.wgsl_module.proofs.Parameters.{stored, stored_by_two}
 use Rattle.wgsl_module.proofs.typing.expressions.Expressions.stored.Goals as goal
 
 pub returns-then-not-branch-clause-answer : goal.returns-then-not-branch-clause-answer

@@ -1,6 +1,6 @@
 use Rattle.std.proofs.Common.{None, sym, ap, ◌∙◌, arith}
 use Rattle.wgsl_module.specs.typing.Stacks.{stack, with_declared}
-use Rattle.wgsl_module.proofs.typing.GivenBack.{known_at, past_end, set_known}
+use Rattle.wgsl_module.proofs.GivenBack.{known_at, past_end, set_known}
 use Rattle.wgsl_module.proofs.typing.expressions.Expressions.take_known.Goals as goal
 
 pub returns-then-index-len-clause-stack : goal.returns-then-index-len-clause-stack

@@ -1,5 +1,5 @@
 use Rattle.std.proofs.Common.{[], ◌∷◌, IfOk, None, subst, sym, Result}
-use Rattle.wgsl_module.proofs.typing.Common.{AllocError, Outcome, Typed, a_unary, IsOverloaded, IsUnary, loaded}
+use Rattle.wgsl_module.proofs.Common.{AllocError, Outcome, Typed, a_unary, IsOverloaded, IsUnary, loaded}
 use Rattle.wgsl_syntax.specs.declared.operator.UnaryOperator.{UnaryOperator}
 use Rattle.wgsl_module.proofs.typing.expressions.Expressions.unary.Goals as goal
 

@@ -1,6 +1,6 @@
 use Rattle.std.proofs.Common.{◌∷◌, [], None, option_map, sym, ap, ◌∙◌}
-use Rattle.wgsl_module.proofs.typing.Common.{a_unary, resolved_view, loaded}
-use Rattle.wgsl_module.proofs.typing.Outcomes.{overloaded}
+use Rattle.wgsl_module.proofs.Common.{a_unary, resolved_view, loaded}
+use Rattle.wgsl_module.proofs.Outcomes.{overloaded}
 use Rattle.wgsl_module.proofs.typing.expressions.Expressions.unary_overloaded.Goals as goal
 
 pub returns-clause-answer : goal.returns-clause-answer

@@ -1,6 +1,6 @@
-use Rattle.wgsl_module.proofs.typing.Common.{◌≡◌, drop, reverse, ap, arith, common_steps, length-reverse, ∥∥₁_map, start, starts_of}
-use Rattle.wgsl_module.proofs.typing.Indices.{indexed_closed}
-use Rattle.wgsl_module.proofs.typing.Scopes.{view_closed}
+use Rattle.wgsl_module.proofs.Common.{◌≡◌, drop, reverse, ap, arith, common_steps, length-reverse, ∥∥₁_map, start, starts_of}
+use Rattle.wgsl_module.proofs.Indices.{indexed_closed}
+use Rattle.wgsl_module.proofs.Scopes.{view_closed}
 use Rattle.wgsl_module.proofs.typing.scope.Locals.close.Goals as goal
 
 pub invariant_of-self : goal.invariant_of-self

@@ -1,4 +1,4 @@
-use Rattle.wgsl_module.proofs.typing.Common.{◌≡◌, length, take, vec_len, names_of, start, locals_of, starts_of, before}
+use Rattle.wgsl_module.proofs.Common.{◌≡◌, length, take, vec_len, names_of, start, locals_of, starts_of, before}
 use Rattle.wgsl_module.proofs.typing.scope.Locals.close.Given as goal
 
 abbrev pub invariant-loop-self : goal.invariant-loop-self

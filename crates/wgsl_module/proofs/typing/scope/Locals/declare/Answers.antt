@@ -1,6 +1,6 @@
-use Rattle.wgsl_module.proofs.typing.Common.{◌≡◌, [], ◌∷◌, ◌++◌, ◌∙◌, ap, length, vec_len, arith, ∥∥₁_map, length-reverse, Local, locals_of, starts_of}
-use Rattle.wgsl_module.proofs.typing.Indices.{reverse_push, indexed_declared, indexed_unchanged}
-use Rattle.wgsl_module.proofs.typing.Scopes.{cut_declared, are_nested}
+use Rattle.wgsl_module.proofs.Common.{◌≡◌, [], ◌∷◌, ◌++◌, ◌∙◌, ap, length, vec_len, arith, ∥∥₁_map, length-reverse, Local, locals_of, starts_of}
+use Rattle.wgsl_module.proofs.Indices.{reverse_push, indexed_declared, indexed_unchanged}
+use Rattle.wgsl_module.proofs.Scopes.{cut_declared, are_nested}
 use Rattle.wgsl_module.proofs.typing.scope.Locals.declare.Goals as goal
 
 pub invariant_of-self-in-Break-branch-2 : goal.invariant_of-self-in-Break-branch-2

@@ -1,5 +1,5 @@
-use Rattle.wgsl_module.proofs.typing.Common.{◌≡◌, sym, ap, arith, ∥∥₁_map, common_steps, starts_of}
-use Rattle.wgsl_module.proofs.typing.Indices.{indexed_forgotten, indexed_unchanged, last_is}
+use Rattle.wgsl_module.proofs.Common.{◌≡◌, sym, ap, arith, ∥∥₁_map, common_steps, starts_of}
+use Rattle.wgsl_module.proofs.Indices.{indexed_forgotten, indexed_unchanged, last_is}
 use Rattle.wgsl_module.proofs.typing.scope.Locals.forget.Goals as goal
 
 pub invariant_of-self-in-Break-branch-2 : goal.invariant_of-self-in-Break-branch-2

@@ -1,6 +1,6 @@
-use Rattle.wgsl_module.proofs.typing.Common.{arith, ∥∥₁_map, length-reverse, locals_of, starts_of}
-use Rattle.wgsl_module.proofs.typing.Indices.{reverse_push, indexed_opened}
-use Rattle.wgsl_module.proofs.typing.Scopes.{cut_opened}
+use Rattle.wgsl_module.proofs.Common.{arith, ∥∥₁_map, length-reverse, locals_of, starts_of}
+use Rattle.wgsl_module.proofs.Indices.{reverse_push, indexed_opened}
+use Rattle.wgsl_module.proofs.Scopes.{cut_opened}
 use Rattle.wgsl_module.proofs.typing.scope.Locals.open.Goals as goal
 
 pub invariant_of-self-2 : goal.invariant_of-self-2

@@ -1,5 +1,5 @@
 use Rattle.std.proofs.Common.{◌≡◌, length, arith}
-use Rattle.wgsl_module.proofs.typing.StructNames.{named_declared, struct_declared}
+use Rattle.wgsl_module.proofs.StructNames.{named_declared, struct_declared}
 use Rattle.wgsl_module.proofs.typing.structs.Structs.declare.Goals as goal
 
 pub returns-clause-declared : goal.returns-clause-declared

@@ -1,7 +1,7 @@
 -- What parsing gives is what the digits count, with a sign or without, and with a suffix or without.
-use Rattle.wgsl_replies.proofs.words.Common.{◌≡◌, ◌≢◌, ◌<◌, ◌^◌, ℕ, Bool, true, false, ltb, List, [], ◌∷◌, length, Some, None, Result, Ok, Err, refl, sym, ap, arith}
-use Rattle.wgsl_replies.proofs.words.Common.{rules, slice_index, OkIff, result_ok, all_ascii_digits, ltb-true, lt-ltb, number_below, has_bytes, ◌==◌, ℤ, pos, negsuc}
-use Rattle.wgsl_replies.proofs.words.Common.{neg_ℤ, cond, ◌&&◌, drop, FitsSigned, subst, ◌∙◌, Width, nat_eq, codes, option_map, ends_with}
+use Rattle.wgsl_replies.proofs.Common.{◌≡◌, ◌≢◌, ◌<◌, ◌^◌, ℕ, Bool, true, false, ltb, List, [], ◌∷◌, length, Some, None, Result, Ok, Err, refl, sym, ap, arith}
+use Rattle.wgsl_replies.proofs.Common.{rules, slice_index, OkIff, result_ok, all_ascii_digits, ltb-true, lt-ltb, number_below, has_bytes, ◌==◌, ℤ, pos, negsuc}
+use Rattle.wgsl_replies.proofs.Common.{neg_ℤ, cond, ◌&&◌, drop, FitsSigned, subst, ◌∙◌, Width, nat_eq, codes, option_map, ends_with}
 use Rattle.std.specs.Str.Parse.{ParsesUnsigned, digits_value, IsNumeral, ParsesSigned, signed_digits_value, starts_with_minus, without_leading_plus, without_leading_sign}
 use Rattle.std.proofs.lemmas.Str.Parse.{IsNumeralModel, numerals_by_value, parse_plain}
 use mir.Val.{hbits}

@@ -1,9 +1,9 @@
 -- What is read, from what the functions answer that read its parts; template parameters, one after another.
-use Rattle.wgsl_replies.proofs.words.Common.{◌≡◌, ◌≢◌, ◌+◌, ◌-◌, ◌<◌, ◌≤◌, ◌++◌, ◌∷◌, ℕ, zero, suc, Bool, true, false, List, [], length, set, take, get_or, Option}
-use Rattle.wgsl_replies.proofs.words.Common.{Some, None, Result, IsErrAnd, codes, option_map, refl, sym, ap, subst, ◌∙◌, append_assoc, arith, bytes_eq, append-nil}
-use Rattle.wgsl_replies.proofs.words.Common.{bytes_eq-Decides, Member, members_of, Fail, around, WgslType, scalar, struct, wrapped, scalar_named, long, Gives, Misses}
-use Rattle.wgsl_replies.proofs.words.Common.{Reader, Reads, Words, a_word, all, all_behind, all_within, alone, and_then, last, one, optional, pair, pure, times}
-use Rattle.wgsl_replies.proofs.words.Common.{in_layer, inside, layer_named, member_at, other_from, struct_at, type_at, type_from, cond, false_from_ne_true}
+use Rattle.wgsl_replies.proofs.Common.{◌≡◌, ◌≢◌, ◌+◌, ◌-◌, ◌<◌, ◌≤◌, ◌++◌, ◌∷◌, ℕ, zero, suc, Bool, true, false, List, [], length, set, take, get_or, Option}
+use Rattle.wgsl_replies.proofs.Common.{Some, None, Result, IsErrAnd, codes, option_map, refl, sym, ap, subst, ◌∙◌, append_assoc, arith, bytes_eq, append-nil}
+use Rattle.wgsl_replies.proofs.Common.{bytes_eq-Decides, Member, members_of, Fail, around, WgslType, scalar, struct, wrapped, scalar_named, long, Gives, Misses}
+use Rattle.wgsl_replies.proofs.Common.{Reader, Reads, Words, a_word, all, all_behind, all_within, alone, and_then, last, one, optional, pair, pure, times}
+use Rattle.wgsl_replies.proofs.Common.{in_layer, inside, layer_named, member_at, other_from, struct_at, type_at, type_from, cond, false_from_ne_true}
 use Rattle.std.proofs.Math.Seq.{take-suc, take-suc-set}
 use Rattle.std.proofs.lemmas.Result.{err_from_is_err_and}
 use Rattle.wgsl_syntax.specs.declared.around.Around.{Around}
@@ -13,7 +13,7 @@ use Rattle.wgsl_syntax.specs.Scalar.{scalar_text, scalars}
 use Rattle.wgsl_core.specs.declared.error.Fail.TheVariants.{Error, Memory}
 use Rattle.wgsl_replies.specs.declared.words.wanted.Misfit.{Misfit}
 use Rattle.wgsl_syntax.proofs.Naming.{named_text}
-use Rattle.wgsl_replies.proofs.words.Within.{some_pair, type_opens}
+use Rattle.wgsl_replies.proofs.Within.{some_pair, type_opens}
 use Rattle.wgsl_rules.specs.types.Signatures.{Parameter}
 use Rattle.wgsl_replies.specs.words.Templates.{parameter_from, parameters_at, parameters_within}
 

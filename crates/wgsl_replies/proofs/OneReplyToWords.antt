@@ -1,5 +1,5 @@
 -- A line has one reply, if every request has an answer.
-use Rattle.wgsl_replies.proofs.words.Common.{◌≡◌, ℕ, List, [], ◌∷◌, Words, words_of}
+use Rattle.wgsl_replies.proofs.Common.{◌≡◌, ℕ, List, [], ◌∷◌, Words, words_of}
 use Rattle.wgsl_requests.specs.Replies.{ReplyText}
 use Rattle.wgsl_requests.proofs.OneAnswer.{HasOne, known, EachAnswered, one_of_line, one_reply_of}
 use Rattle.wgsl_replies.specs.words.Requests.{IsReplyToLine, IsReplyToWords, request_of}

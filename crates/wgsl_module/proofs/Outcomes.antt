@@ -1,6 +1,6 @@
 -- What a call is that resolves to something, and what is declared with a value.
 use Rattle.std.proofs.Common.{◌≡◌, List, Option, Result, Ok, Err, IfOk, Some, None, option_map, sym, subst, ap, ◌∙◌}
-use Rattle.wgsl_module.proofs.typing.Common.{AllocError, view, Operand, WgslType, WgslCallee, IsCallResolution, IsInferredArray, resolved_view, ResolvedCall, Refusal, Outcome, Part, Typed, Stage, IsHeld, IsHeldFor, answer_of, Unresolved}
+use Rattle.wgsl_module.proofs.Common.{AllocError, view, Operand, WgslType, WgslCallee, IsCallResolution, IsInferredArray, resolved_view, ResolvedCall, Refusal, Outcome, Part, Typed, Stage, IsHeld, IsHeldFor, answer_of, Unresolved}
 use Rattle.wgsl_core.specs.declared.ty.Type.{«Type»}
 use Rattle.wgsl_forms.specs.declared.form.Referent.TheVariants.{Whole}
 use Rattle.wgsl_module.specs.declared.typing.known.Outcome.TheVariants as outcomes

@@ -1,7 +1,7 @@
 -- Scopes, and the indices of names.
-use Rattle.wgsl_module.proofs.typing.Common.{ℕ, List, [], ◌∷◌, Bool, true, false, Option, Some, None, cond, ◌≡◌, ◌≤◌, ◌<◌, length, drop, refl, sym, ap, ◌∙◌, arith}
-use Rattle.wgsl_module.proofs.typing.Common.{⊎_elim, is_some, le-leb, nat_le, bytes_eq, nat_cmp, ∥∥₁_elim, get_by, slice_cmp, Local, Block, in_block, names_of, start}
-use Rattle.wgsl_module.proofs.typing.Common.{AreNested, named, is_here, with_name, closed, since, before, cut, locals_of, starts_of, scope_view}
+use Rattle.wgsl_module.proofs.Common.{ℕ, List, [], ◌∷◌, Bool, true, false, Option, Some, None, cond, ◌≡◌, ◌≤◌, ◌<◌, length, drop, refl, sym, ap, ◌∙◌, arith}
+use Rattle.wgsl_module.proofs.Common.{⊎_elim, is_some, le-leb, nat_le, bytes_eq, nat_cmp, ∥∥₁_elim, get_by, slice_cmp, Local, Block, in_block, names_of, start}
+use Rattle.wgsl_module.proofs.Common.{AreNested, named, is_here, with_name, closed, since, before, cut, locals_of, starts_of, scope_view}
 use Rattle.std.proofs.Props.{props}
 use Rattle.std.proofs.lemmas.Bool.{cases_lt, lt-leb}
 use Rattle.std.specs.Coded.{×_prop, Unit-prop, le_prop}

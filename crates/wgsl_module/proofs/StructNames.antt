@@ -1,12 +1,12 @@
 -- Structs and the indices of their names.
-use Rattle.wgsl_module.proofs.typing.Common.{ℕ, List, [], ◌∷◌, ◌++◌, Bool, true, false, Option, Some, None, IfSome, cond, ◌≡◌, ◌+◌, ◌<◌, length, slice_get, refl, sym}
-use Rattle.wgsl_module.proofs.typing.Common.{ap, ◌∙◌, arith, length-append, Bor, option_and_then, bytes_eq, get_or_append_left, btree_map_updates_str, Gives}
+use Rattle.wgsl_module.proofs.Common.{ℕ, List, [], ◌∷◌, ◌++◌, Bool, true, false, Option, Some, None, IfSome, cond, ◌≡◌, ◌+◌, ◌<◌, length, slice_get, refl, sym}
+use Rattle.wgsl_module.proofs.Common.{ap, ◌∙◌, arith, length-append, Bor, option_and_then, bytes_eq, get_or_append_left, btree_map_updates_str, Gives}
 use Rattle.std.proofs.lemmas.Option.{slice_get-get_or}
 use Rattle.std.proofs.Math.Seq.{get_or-append_seam}
 use Rattle.wgsl_module.specs.declared.typing.structs.Declared.{Declared}
 use Rattle.wgsl_module.specs.declared.typing.structs.Structs.{Structs}
 use Rattle.wgsl_module.specs.typing.StructNames.{AreNamed, IsDeclaredAs, index_of}
-use Rattle.wgsl_module.proofs.typing.Indices.{Index}
+use Rattle.wgsl_module.proofs.Indices.{Index}
 
 longer : {A : Type 0} (xs : List A) (x : A) → length (xs ++ x ∷ []) ≡ length xs + 1
 longer xs x = length-append xs (x ∷ [])

@@ -1,7 +1,7 @@
 -- The first word of a text, what is left behind it, and where the text may be cut: after the separators in front, and after that word.
-use Rattle.wgsl_replies.proofs.words.Common.{◌≡◌, ℕ, ◌+◌, ◌<◌, Bool, true, false, not, List, [], ◌∷◌, length, take, drop, refl, ap, sym, subst, ◌∙◌, arith, filter}
-use Rattle.wgsl_replies.proofs.words.Common.{prefix_len, take_while, length-prefix_len, common_steps, nil_from_length, pieces, has_bytes, is_separator, words_of, zero}
-use Rattle.wgsl_replies.proofs.words.Common.{suc, ◌-◌, ◌≤◌, Some, None, IsUtf8, get_or, Bor, IsCharBoundary, IsAscii, not-false, drop-drop, length-drop, IsFirstWord}
+use Rattle.wgsl_replies.proofs.Common.{◌≡◌, ℕ, ◌+◌, ◌<◌, Bool, true, false, not, List, [], ◌∷◌, length, take, drop, refl, ap, sym, subst, ◌∙◌, arith, filter}
+use Rattle.wgsl_replies.proofs.Common.{prefix_len, take_while, length-prefix_len, common_steps, nil_from_length, pieces, has_bytes, is_separator, words_of, zero}
+use Rattle.wgsl_replies.proofs.Common.{suc, ◌-◌, ◌≤◌, Some, None, IsUtf8, get_or, Bor, IsCharBoundary, IsAscii, not-false, drop-drop, length-drop, IsFirstWord}
 use Rattle.wgsl_requests.specs.Replies.{has_line_feed, is_line_feed}
 use Rattle.std.proofs.lemmas.List.Sums.{prefix_len-le-length, prefix_len_passes, prefix_len_stops}
 use Rattle.std.proofs.lemmas.Str.{IsCharBoundary-start, IsCharBoundary-after_ascii, IsCharBoundary-before_ascii, IsCharBoundary-from_rest, IsUtf8-nil, IsUtf8-append, IsUtf8-from_ascii}

@@ -1,6 +1,6 @@
 -- What is asked of overloads and of forms, by what operands are shown as.
 use Rattle.std.proofs.Common.{◌≡◌, List, [], ◌∷◌, Option, Result, Ok, Err, IfOk, Some, None, map, refl, ap, subst, ◌∙◌, sym}
-use Rattle.wgsl_module.proofs.typing.Common.{AllocError, Operand, value_of, WgslType, WgslCallee, IsCallResolution, ResolvedCall, IsInferredArray, Refusal, given, Part, Typed, IsAnswer, IsMessage, loaded, operands_of, resolved, shown, typed_parts, types_of, Unresolved}
+use Rattle.wgsl_module.proofs.Common.{AllocError, Operand, value_of, WgslType, WgslCallee, IsCallResolution, ResolvedCall, IsInferredArray, Refusal, given, Part, Typed, IsAnswer, IsMessage, loaded, operands_of, resolved, shown, typed_parts, types_of, Unresolved}
 use Rattle.wgsl_standard.specs.Operands.{given_type, operands_view}
 use Rattle.wgsl_standard.specs.Texts.{types_given}
 use Rattle.wgsl_standard.specs.declared.operand.Operand.{Operand as CodeOperand}

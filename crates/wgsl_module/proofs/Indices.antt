@@ -1,7 +1,7 @@
 -- Locals by index.
-use Rattle.wgsl_module.proofs.typing.Common.{ℕ, suc, List, [], ◌∷◌, ◌++◌, Bool, true, false, Option, Some, cond, ◌≡◌, ◌≤◌, ◌<◌, length, reverse, refl, sym, ap, ◌∙◌}
-use Rattle.wgsl_module.proofs.typing.Common.{subst, arith, bytes_eq, drop, slice_get, BTreeMap, nat_cmp, Bor, reverse-append, length-reverse, btree_map_updates_str}
-use Rattle.wgsl_module.proofs.typing.Common.{get_by, slice_cmp, Local, Block, in_block, names_of, start, AreNested, Gives, IsIndex, IsIndexed}
+use Rattle.wgsl_module.proofs.Common.{ℕ, suc, List, [], ◌∷◌, ◌++◌, Bool, true, false, Option, Some, cond, ◌≡◌, ◌≤◌, ◌<◌, length, reverse, refl, sym, ap, ◌∙◌}
+use Rattle.wgsl_module.proofs.Common.{subst, arith, bytes_eq, drop, slice_get, BTreeMap, nat_cmp, Bor, reverse-append, length-reverse, btree_map_updates_str}
+use Rattle.wgsl_module.proofs.Common.{get_by, slice_cmp, Local, Block, in_block, names_of, start, AreNested, Gives, IsIndex, IsIndexed}
 use Rattle.std.proofs.lemmas.Slice.Eq.{bytes_eq-Decides}
 
 pub reverse_push : {A : Type 0} (xs : List A) (x : A) → reverse (xs ++ x ∷ []) ≡ x ∷ reverse xs

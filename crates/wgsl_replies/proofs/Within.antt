@@ -1,8 +1,8 @@
 -- A bound that is larger than the number of words changes nothing of what is read.
-use Rattle.wgsl_replies.proofs.words.Common.{◌≡◌, ◌≤◌, ◌∷◌, ℕ, zero, suc, Bool, true, false, cond, List, [], length, Option, Some, None, refl, sym, ap, subst, ◌∙◌}
-use Rattle.wgsl_replies.proofs.words.Common.{arith, bytes_eq, WgslType, sampler_named, scalar_named, Reader, Words, and_then, ◌>>=◌, ◌<$>◌, means, one, optional}
-use Rattle.wgsl_replies.proofs.words.Common.{or_else, pure, times, a_word, inside, layer_named, layers, leaf_from, member_at, memory_at, other_from, parameters_at}
-use Rattle.wgsl_replies.proofs.words.Common.{rays, rays_named, struct_at, texture_from, type_at, type_from, type_within}
+use Rattle.wgsl_replies.proofs.Common.{◌≡◌, ◌≤◌, ◌∷◌, ℕ, zero, suc, Bool, true, false, cond, List, [], length, Option, Some, None, refl, sym, ap, subst, ◌∙◌}
+use Rattle.wgsl_replies.proofs.Common.{arith, bytes_eq, WgslType, sampler_named, scalar_named, Reader, Words, and_then, ◌>>=◌, ◌<$>◌, means, one, optional}
+use Rattle.wgsl_replies.proofs.Common.{or_else, pure, times, a_word, inside, layer_named, layers, leaf_from, member_at, memory_at, other_from, parameters_at}
+use Rattle.wgsl_replies.proofs.Common.{rays, rays_named, struct_at, texture_from, type_at, type_from, type_within}
 use Rattle.wgsl_syntax.specs.Names.{named}
 use Rattle.wgsl_syntax.specs.TextureName.{parameter_kind, texture_with}
 use Rattle.wgsl_syntax.specs.declared.texture_name.TextureParameterKind.{TextureParameterKind}
