@@ -1,6 +1,6 @@
 //! The modules of Rattle's std that the proved sources name.
 
-pub use core::{cmp, str};
+pub use core::{cmp, mem, str};
 
 /// The allocator.
 pub mod alloc {

@@ -1,5 +1,5 @@
 -- What is told of a text stays told.
-use Rattle.std.proofs.Common.{ℕ, ◌≡◌, ◌<◌, ◌∷◌, ◌++◌, [], List, Contains, Global, IfOk, Result, Vec, ap, append_assoc, arith, inl, inr, map, subst, sym}
+use Rattle.std.proofs.Common.{ℕ, ◌≡◌, ◌<◌, ◌∷◌, ◌++◌, [], List, Contains, Global, IfOk, Result, Vec, ap, append_assoc, arith, inl, inr, map, refl, subst, sym}
 use Rattle.std.proofs.lemmas.List.{append-nil, map-append, map_push}
 use Rattle.std.proofs.lemmas.List.Elements.{Contains-append_cases, Contains-append_left, Contains-append_right, Contains-push, Contains-push_cases}
 use Rattle.std.proofs.lemmas.List.Sorted.{Contains-permutation, IsPermutation-map}
@@ -59,3 +59,15 @@ none_left bs xs rest none told = subst (λ fs. AreTold bs fs) (append-nil xs) (s
 pub added_told : (bs : List Broken) (xs ys all : List Fault) → map broken ys ≡ bs → AreTold (map broken (xs ++ ys)) all → AreTold bs all
 added_told bs xs ys all same told b h = told b (subst (λ cs. Contains cs b) (sym (map-append broken xs ys))
     (Contains-append_right (map broken xs) (map broken ys) b (subst (λ cs. Contains cs b) (sym same) h)))
+
+-- Where nothing is told in the end, nothing was before.
+pub nothing_told : (before after : List Fault) → ((b : Broken) → Contains (map broken before) b → Contains (map broken after) b) → after ≡ [] → before ≡ []
+nothing_told [] after kept none = refl
+nothing_told (f ∷ before) after kept none =
+    let first : Contains (map broken (f ∷ before)) (broken f) = Contains-append_left (broken f ∷ []) (map broken before) (broken f) (Contains-push [] (broken f)) in
+    let last : Contains [] (broken f) = subst (λ fs. Contains (map broken fs) (broken f)) none (kept (broken f) first) in
+    absurd (nothing last.1)
+
+pub none_in_front : (xs ys : List Fault) → xs ++ ys ≡ [] → xs ≡ []
+none_in_front [] ys none = refl
+none_in_front (x ∷ xs) ys none = cc none

@@ -1,9 +1,13 @@
 mod Allowed
+mod Behind
+mod Calls
 mod Common
 mod Faulty
+mod Following
 mod GivenBack
 mod Indices
 mod Kept
+mod Named
 mod OnlyMember
 mod Operands
 mod Order
@@ -16,4 +20,5 @@ mod Source
 mod StructNames
 mod Taken
 mod Unread
+mod Walked
 mod Written

@@ -1,11 +1,27 @@
 -- Declarations that are done, one behind the other.
-use Rattle.std.proofs.Common.{◌≡◌, ◌∙◌, ◌+◌, ◌<◌, ◌≤◌, ◌⊎◌, ℕ, zero, suc, List, [], ◌∷◌, ◌++◌, Bool, true, false, Some, None, ap, arith, cond, inl, inr, length, nat_eq, refl, replicate, set, slice_get, subst, sym}
+use Rattle.std.proofs.lemmas.List.Elements.{Contains-append_cases, Contains-append_left, Contains-append_right, Contains-push, Contains-push_cases}
+use Rattle.std.proofs.Common.{ap₂, ◌≡◌, ◌≢◌, ◌∙◌, ◌+◌, ◌<◌, ◌≤◌, ◌⊎◌, ℕ, zero, suc, List, [], ◌∷◌, ◌++◌, Bool, true, false, Contains, Option, Some, None, ap, arith, cond, get_or, inl, inr, length, nat_eq, refl, replicate, set, slice_get, subst, sym}
 use Rattle.std.proofs.Math.Dec.{eqb-suc-suc, eqb-suc-zero, eqb-zero-suc}
 use Rattle.std.proofs.lemmas.List.{length-replicate}
-use Rattle.std.proofs.lemmas.List.Sums.{sum_by_push}
-use Rattle.wgsl_module.specs.Order.{AreDone, HasEach, IsOrder, StaysDone, is_done}
+use Rattle.std.proofs.lemmas.List.Sums.{get_or-le-sum_by, sum_by-cons, sum_by_push}
+use Rattle.wgsl_module.specs.Order.{HasEach, times_in}
 use Rattle.wgsl_module.specs.declared.walk.State.{State}
-use Rattle.wgsl_module.specs.declared.walk.State.TheVariants.{Done, Unseen}
+use Rattle.wgsl_module.specs.declared.walk.State.TheVariants.{Done, Open, Unseen}
+
+abbrev pub is_done : Option State → Bool
+is_done (Some Done) = true
+is_done other = false
+
+-- those that are done, and no others, stand in the order, once
+abbrev pub IsOrder : List State → List ℕ → Type 0
+IsOrder states order = (index : ℕ) → times_in order index ≡ cond (is_done (slice_get states index)) 1 0
+
+-- What is done stays done.
+abbrev pub StaysDone : List State → List State → Type 0
+StaysDone before after = (index : ℕ) → is_done (slice_get before index) ≡ true → is_done (slice_get after index) ≡ true
+
+abbrev pub AreDone : ℕ → ℕ → List State → Type 0
+AreDone from to states = (index : ℕ) → from ≤ index → index < to → index < length states → is_done (slice_get states index) ≡ true
 
 -- One that is done
 
@@ -34,47 +50,10 @@ stays_done (s ∷ states) zero (suc i) done = done
 stays_done (s ∷ states) (suc index) zero done = done
 stays_done (s ∷ states) (suc index) (suc i) done = stays_done states index i done
 
-pub is_set : (states : List State) (index : ℕ) → index < length states → is_done (slice_get (set states index Done) index) ≡ true
-is_set [] index inside = absurd (omega (arith, inside))
-is_set (s ∷ states) zero inside = refl
-is_set (s ∷ states) (suc index) inside = is_set states index (omega (arith, inside))
-
-pub none_past : (states : List State) (index : ℕ) → slice_get states index ≡ None → index < length states → is_done (slice_get states index) ≡ true
-none_past [] index is inside = absurd (omega (arith, inside))
-none_past (s ∷ states) zero is inside = cc is
-none_past (s ∷ states) (suc index) is inside = none_past states index is (omega (arith, inside))
-
--- All
-
--- those that are done, among them all from one index up to another
-pub record Ordered (from to count : ℕ) (states : List State) (order : List ℕ) : Type 0 where
-  pub ordered : IsOrder states order
-  pub done : AreDone from to states
-  pub len : length states ≡ count
-
-none_done : (n : ℕ) → IsOrder (replicate n Unseen) []
+pub none_done : (n : ℕ) → IsOrder (replicate n Unseen) []
 none_done zero i = refl
 none_done (suc n) zero = refl
 none_done (suc n) (suc i) = none_done n i
-
-pub begun : (from n : ℕ) → Ordered from from n (replicate n Unseen) []
-begun from n = record { ordered = none_done n; done = λ i above below inside. absurd (omega (arith, above, below)); len = length-replicate n Unseen }
-
-pub one_opened : (from to n : ℕ) (states new : List State) (order : List ℕ) → ((i : ℕ) → is_done (slice_get new i) ≡ is_done (slice_get states i))
-    → length new ≡ length states → Ordered from to n states order → Ordered from to n new order
-one_opened from to n states new order same len o = record {
-  ordered = λ i. o.ordered i ∙ ap (λ b. cond b 1 0) (sym (same i));
-  done = λ i above below inside. same i ∙ o.done i above below (omega (arith, inside, len));
-  len = len ∙ o.len;
-}
-
-pub one_closed : (from to n : ℕ) (states new : List State) (order more : List ℕ) → (IsOrder states order → IsOrder new more) → StaysDone states new
-    → length new ≡ length states → Ordered from to n states order → Ordered from to n new more
-one_closed from to n states new order more ordered stays len o = record {
-  ordered = ordered o.ordered;
-  done = λ i above below inside. stays i (o.done i above below (omega (arith, inside, len)));
-  len = len ∙ o.len;
-}
 
 before_or_at : (i to : ℕ) → i < to + 1 → (i < to) ⊎ (i ≡ to)
 before_or_at zero zero below = inr refl
@@ -85,18 +64,83 @@ before_or_at (suc i) (suc to) below = elim (before_or_at i to (omega (arith, bel
   | inr at ↦ inr (ap suc at)
 ]
 
-last_too : (from to : ℕ) (states : List State) → AreDone from to states → (to < length states → is_done (slice_get states to) ≡ true) → AreDone from (to + 1) states
-last_too from to states done last i above below inside = elim (before_or_at i to below) [
-  | inl before ↦ done i above before inside
-  | inr at ↦ subst (λ k. is_done (slice_get states k) ≡ true) (sym at) (last (omega (arith, at, inside)))
+-- those up to the next one
+pub last_too : (from to : ℕ) (states new : List State) → StaysDone states new → length new ≡ length states
+    → (to < length new → is_done (slice_get new to) ≡ true) → AreDone from to states → AreDone from (to + 1) new
+last_too from to states new stays len last done i above below inside = elim (before_or_at i to below) [
+  | inl before ↦ stays i (done i above before (omega (arith, len, inside)))
+  | inr at ↦ subst (λ k. is_done (slice_get new k) ≡ true) (sym at) (last (omega (arith, at, inside)))
 ]
 
-pub one_further : (from to n : ℕ) (states new : List State) (order more : List ℕ) → (IsOrder states order → IsOrder new more) → StaysDone states new
-    → (to < length states → is_done (slice_get new to) ≡ true) → length new ≡ length states → Ordered from to n states order → Ordered from (to + 1) n new more
-one_further from to n states new order more ordered stays last len o =
-    let closed = one_closed from to n states new order more ordered stays len o in
-    record { ordered = closed.ordered; done = last_too from to new closed.done (λ inside. last (omega (arith, inside, len))); len = closed.len }
+pub all_ordered : (from to root : ℕ) (states : List State) (order : List ℕ) → to ≤ root → to ≤ length states → IsOrder states order → AreDone from root states
+    → HasEach from to order
+all_ordered from to root states order end inside ordered done i above below =
+    ordered i ∙ ap (λ b. cond b 1 0) (done i above (omega (arith, below, end)) (omega (arith, below, inside)))
 
-pub all_ordered : (from to root n : ℕ) (states : List State) (order : List ℕ) → to ≤ root → to ≤ n → Ordered from root n states order → HasEach from to order
-all_ordered from to root n states order end inside o i above below =
-    o.ordered i ∙ ap (λ b. cond b 1 0) (o.done i above (omega (arith, below, end)) (omega (arith, below, inside, o.len)))
+-- What stands in an order
+
+nothing : {k : ℕ} → k < 0 → ⊥
+nothing lt = omega arith
+
+not_same : (i k : ℕ) → i ≢ k → nat_eq i k ≡ false
+not_same zero zero other = absurd (other refl)
+not_same zero (suc k) other = eqb-zero-suc k
+not_same (suc i) zero other = eqb-suc-zero i
+not_same (suc i) (suc k) other = eqb-suc-suc i k ∙ not_same i k (λ is. other (ap suc is))
+
+head_of : {x y : ℕ} {xs ys : List ℕ} → x ∷ xs ≡ y ∷ ys → x ≡ y
+head_of is = cc is
+
+tail_of : {x y : ℕ} {xs ys : List ℕ} → x ∷ xs ≡ y ∷ ys → xs ≡ ys
+tail_of is = cc is
+
+pub no_more : (front rest : List ℕ) (j : ℕ) → front ++ j ∷ rest ≡ [] → ⊥
+no_more [] rest j is = cc is
+no_more (f ∷ front) rest j is = cc is
+
+pub same_or_not : (i k : ℕ) → (i ≡ k) ⊎ (i ≢ k)
+same_or_not zero zero = inl refl
+same_or_not zero (suc k) = inr (λ is. omega (arith, is))
+same_or_not (suc i) zero = inr (λ is. omega (arith, is))
+same_or_not (suc i) (suc k) = elim (same_or_not i k) [ inl same ↦ inl (ap suc same) | inr other ↦ inr (λ is. other (omega (arith, is))) ]
+
+pub in_front : (x y : ℕ) (xs : List ℕ) → Contains (x ∷ xs) y → (x ≡ y) ⊎ Contains xs y
+in_front x y xs h = elim (Contains-append_cases (x ∷ []) xs y h) [
+  | inl one ↦ elim (Contains-push_cases [] x y one) [ inl none ↦ absurd (nothing none.1) | inr same ↦ inl same ]
+  | inr rest ↦ inr rest
+]
+
+without : (i k n : ℕ) (order : List ℕ) → i ≢ k → times_in (i ∷ order) k ≡ suc n → times_in order k ≡ suc n
+without i k n order other is =
+    let first : times_in (i ∷ order) k ≡ cond (nat_eq i k) 1 0 + times_in order k = sum_by-cons (λ j. cond (nat_eq j k) 1 0) i order in
+    let none : ◌≡◌ {A = ℕ} (cond (nat_eq i k) 1 0) 0 = ap (λ b. cond b 1 0) (not_same i k other) in
+    omega (arith, first, none, is)
+
+pub in_order : (order : List ℕ) (k n : ℕ) → times_in order k ≡ suc n → Contains order k
+in_order [] k n is = absurd (omega (arith, is))
+in_order (i ∷ order) k n is = elim (same_or_not i k) [
+  | inl same ↦ Contains-append_left (i ∷ []) order k (subst (λ j. Contains (j ∷ []) k) (sym same) (Contains-push [] k))
+  | inr other ↦ Contains-append_right (i ∷ []) order k (in_order order k n (without i k n order other is))
+]
+
+-- the last one of an order, or one in front of it
+pub last_or_before : (xs front rest : List ℕ) (x j : ℕ) → xs ++ x ∷ [] ≡ front ++ j ∷ rest
+    → ((front ≡ xs) × (j ≡ x)) ⊎ ((more : List ℕ) × (xs ≡ front ++ j ∷ more))
+last_or_before [] [] rest x j is = inl (refl, head_of (sym is))
+last_or_before [] (f ∷ front) rest x j is = absurd (no_more front rest j (sym (tail_of is)))
+last_or_before (y ∷ xs) [] rest x j is = inr (xs, ap (λ i. i ∷ xs) (head_of is))
+last_or_before (y ∷ xs) (f ∷ front) rest x j is = elim (last_or_before xs front rest x j (tail_of is)) [
+  | inl last ↦ inl (ap₂ (λ i is. i ∷ is) (sym (head_of is)) last.0, last.1)
+  | inr before ↦ inr (before.0, ap₂ (λ i is. i ∷ is) (head_of is) before.1)
+]
+
+same_number : (k : ℕ) → nat_eq k k ≡ true
+same_number zero = refl
+same_number (suc k) = eqb-suc-suc k k ∙ same_number k
+
+-- what stands there does so once or more
+pub stands_there : (order : List ℕ) (k : ℕ) → Contains order k → 0 < times_in order k
+stands_there order k h =
+    let one : ◌≡◌ {A = ℕ} (cond (nat_eq (get_or order h.0 k) k) 1 0) 1 = ap (λ i. cond (nat_eq i k) 1 0) h.2 ∙ ap (λ b. cond b 1 0) (same_number k) in
+    let all : cond (nat_eq (get_or order h.0 k) k) 1 0 ≤ times_in order k = get_or-le-sum_by (λ i. cond (nat_eq i k) 1 0) order h.0 k h.1 in
+    omega (arith, one, all)

@@ -1,6 +1,7 @@
 -- What the grammar doesn't read has no expressions.
 use Rattle.std.proofs.Common.{◌≡◌, ◌∙◌, ◌<◌, ℕ, zero, suc, List, [], ◌∷◌, ◌++◌, Some, ap, arith, length, map, slice_get, subst}
 use Rattle.std.proofs.lemmas.List.{map_push}
+use Rattle.wgsl_module.proofs.Behind.{fewer_behind}
 use Rattle.wgsl_module.specs.Declarations.{Written, bodies_of, body_by, written}
 use Rattle.wgsl_module.specs.Noted.{Comes, Reading, State, reading}
 use Rattle.wgsl_module.specs.Runs.{AreDeclarations, AreRuns, Ends, IsDeclaration, IsModule, cleared}
@@ -43,18 +44,19 @@ no_body : (ws : List Written) (x : Written) → x.kind ≡ kinds.Misread → bod
 no_body [] x is = ap (λ k. body_by k x.body ++ []) is
 no_body (w ∷ ws) x is = ap (λ bs. body_by w.kind w.body ++ bs) (no_body ws x is)
 
-without_last : (tokens : List Token) (ws : List Written) (x : Written) (s r : Reading) → x.kind ≡ kinds.Misread → x.events ≡ []
-    → IsModule tokens (ws ++ x ∷ []) s r → IsModule tokens ws s r
-without_last tokens ws x s r kind none is = (
+without_last : (cycles : List ℕ) (tokens : List Token) (ws : List Written) (x : Written) (s r : Reading) → x.kind ≡ kinds.Misread → x.events ≡ []
+    → IsModule cycles tokens (ws ++ x ∷ []) s r → IsModule cycles tokens ws s r
+without_last cycles tokens ws x s r kind none is = (
   is.0,
   is.1,
   λ i above below. is.2 i above (within ws x i below),
-  fewer tokens ws x is.0 s is.1 kind none is.3,
-  subst (λ bs. AreRuns tokens bs is.1 r) (no_body ws x kind) is.4,
+  fewer_behind s ws x cycles is.0 none is.3,
+  fewer tokens ws x is.0 s is.1 kind none is.4,
+  subst (λ bs. AreRuns tokens bs is.1 r) (no_body ws x kind) is.5,
 )
 
-pub misread_pushed : (tokens : List Token) (all ds : List Declaration) (x : Declaration) (s r : Reading) → all ≡ ds ++ x ∷ [] → x.kind ≡ kinds.Misread
-    → x.events.now ≡ [] → IsModule tokens (map written all) s r → IsModule tokens (map written ds) s r
-misread_pushed tokens all ds x s r pushed kind none is =
-    without_last tokens (map written ds) (written x) s r kind none
-    (subst (λ ws. IsModule tokens ws s r) (ap (map written) pushed ∙ map_push written ds x) is)
+pub misread_pushed : (cycles : List ℕ) (tokens : List Token) (all ds : List Declaration) (x : Declaration) (s r : Reading) → all ≡ ds ++ x ∷ [] → x.kind ≡ kinds.Misread
+    → x.events.now ≡ [] → IsModule cycles tokens (map written all) s r → IsModule cycles tokens (map written ds) s r
+misread_pushed cycles tokens all ds x s r pushed kind none is =
+    without_last cycles tokens (map written ds) (written x) s r kind none
+    (subst (λ ws. IsModule cycles tokens ws s r) (ap (map written) pushed ∙ map_push written ds x) is)

@@ -2,7 +2,7 @@
 use Rattle.std.proofs.Common.{◌≡◌, ◌∙◌, ◌+◌, ◌<◌, ◌≤◌, ℕ, List, [], ◌∷◌, ◌++◌, Bool, true, false, ◌||◌, Option, Some, None, ap, append_assoc, arith, cond, drop, drop-cons, get_or, is_some, length, map, refl, slice_range, subst, suc, sym, unwrap_or}
 use Rattle.std.proofs.lemmas.List.{append-nil, drop_all, map_push}
 use Rattle.std.proofs.lemmas.List.Edits.{between_more, between_none}
-use Rattle.wgsl_module.specs.Declarations.{Written, begins, begun, body_up_to, ended, unless_ended, with_end, with_event, written, written_in}
+use Rattle.wgsl_module.specs.Declarations.{Written, begins, begun, body_up_to, ended, name_of, unless_ended, with_end, with_event, with_name, written, written_in}
 use Rattle.wgsl_module.specs.declared.declaration.Declaration.{Declaration}
 use Rattle.wgsl_module.specs.declared.declaration.DeclarationKind.{DeclarationKind}
 use Rattle.wgsl_reader.specs.declared.read.Event.{Event}
@@ -12,19 +12,28 @@ use Rattle.wgsl_reader.specs.declared.read.Event.{Event}
 -- declarations, the first of which began with these events and with this of its body
 abbrev with_front : List Event → List Event → List Written → List Written
 with_front own body [] = []
-with_front own body (d ∷ ds) = record { kind = d.kind; events = own ++ d.events; body = body ++ d.body } ∷ ds
+with_front own body (d ∷ ds) = with_name d.kind (own ++ d.events) (body ++ d.body) ∷ ds
 
-without_front : (ds : List Written) → with_front [] [] ds ≡ ds
-without_front [] = refl
-without_front (d ∷ ds) = refl
+without_front : (in_body : Bool) (events : List Event) → with_front [] [] (written_in in_body events) ≡ written_in in_body events
+without_front in_body [] = refl
+without_front in_body (e ∷ events) = all (ended e.mark in_body) (in_body || begins e.mark) (written_in (unless_ended (ended e.mark in_body) (in_body || begins e.mark)) events)
+  where
+    one : (b : Bool) (ds : List Written) → with_front [] [] (with_event b e ds) ≡ with_event b e ds
+    one b [] = refl
+    one true (d ∷ ds) = refl
+    one false (d ∷ ds) = refl
+
+    all : (kind : Option DeclarationKind) (b : Bool) (ds : List Written) → with_front [] [] (with_end kind b e ds) ≡ with_end kind b e ds
+    all (Some kind) b ds = refl
+    all None b ds = one b ds
 
 in_front : (own body : List Event) (e : Event) (ds : List Written) → with_front own body (with_event false e ds) ≡ with_front (own ++ e ∷ []) body ds
 in_front own body e [] = refl
-in_front own body e (d ∷ ds) = ap (λ es. record { kind = d.kind; events = es; body = body ++ d.body } ∷ ds) (sym (append_assoc own (e ∷ []) d.events))
+in_front own body e (d ∷ ds) = ap (λ es. with_name d.kind es (body ++ d.body) ∷ ds) (sym (append_assoc own (e ∷ []) d.events))
 
 in_its_body : (own body : List Event) (e : Event) (ds : List Written) → with_front own body (with_event true e ds) ≡ with_front own (body ++ e ∷ []) ds
 in_its_body own body e [] = refl
-in_its_body own body e (d ∷ ds) = ap (λ es. record { kind = d.kind; events = own ++ d.events; body = es } ∷ ds) (sym (append_assoc body (e ∷ []) d.body))
+in_its_body own body e (d ∷ ds) = ap (λ es. with_name d.kind (own ++ d.events) es ∷ ds) (sym (append_assoc body (e ∷ []) d.body))
 
 -- from an index on
 abbrev left : List Event → ℕ → Option ℕ → ℕ → List Written
@@ -37,7 +46,7 @@ pub record Found (events : List Event) (ds : List Declaration) (from : ℕ) (bod
   pub below : unwrap_or body i ≤ i
 
 pub none_found : (events : List Event) → Found events [] 0 None 0
-none_found events = record { all = ap (λ own. with_front own [] (written_in false events)) (between_none events 0) ∙ without_front (written_in false events); above = omega arith; below = omega arith }
+none_found events = record { all = ap (λ own. with_front own [] (written_in false events)) (between_none events 0) ∙ without_front false events; above = omega arith; below = omega arith }
 
 next_of : (events : List Event) (i : ℕ) (d : Event) → i < length events → drop i events ≡ get_or events i d ∷ drop (i + 1) events
 next_of events i d inside = let next : suc i ≡ i + 1 = omega arith in subst (λ k. drop i events ≡ get_or events i d ∷ drop k events) next (drop-cons events i d inside)
@@ -50,23 +59,24 @@ all_found events ds from body i end found = sym (append-nil (map written ds))
 
 -- one that ends
 ended_left : (own body : List Event) (e : Event) (in_body : Bool) (kind : DeclarationKind) (events : List Event) → ended e.mark in_body ≡ Some kind
-    → with_front own body (written_in in_body (e ∷ events)) ≡ record { kind = kind; events = own; body = body } ∷ written_in false events
+    → with_front own body (written_in in_body (e ∷ events)) ≡ with_name kind own body ∷ written_in false events
 ended_left own body e in_body kind events is =
     ap (λ k. with_front own body (with_end k (in_body || begins e.mark) e (written_in (unless_ended k (in_body || begins e.mark)) events))) is
-    ∙ (ap (λ es. record { kind = kind; events = es; body = body ++ [] } ∷ written_in false events) (append-nil own)
-    ∙ ap (λ es. record { kind = kind; events = own; body = es } ∷ written_in false events) (append-nil body))
+    ∙ (ap (λ es. with_name kind es (body ++ []) ∷ written_in false events) (append-nil own)
+    ∙ ap (λ es. with_name kind own es ∷ written_in false events) (append-nil body))
 
 pub found_one : (events : List Event) (ds : List Declaration) (from : ℕ) (body : Option ℕ) (i : ℕ) (d : Event) (x : Declaration) → i < length events
     → ended (get_or events i d).mark (is_some body) ≡ Some x.kind → x.events.now ≡ slice_range events from (unwrap_or body i) → x.body.now ≡ body_up_to events body i
-    → Found events ds from body i → Found events (ds ++ x ∷ []) (i + 1) None (i + 1)
-found_one events ds from body i d x inside is own begun found =
+    → x.named ≡ name_of x.kind x.events.now → Found events ds from body i → Found events (ds ++ x ∷ []) (i + 1) None (i + 1)
+found_one events ds from body i d x inside is own begun named found =
     let rest = written_in false (drop (i + 1) events) in
     let all = subst (λ es. map written ds ++ with_front (slice_range events from (unwrap_or body i)) (body_up_to events body i) (written_in (is_some body) es) ≡ written_in false events)
     (next_of events i d inside) found.all in
     let one = ended_left (slice_range events from (unwrap_or body i)) (body_up_to events body i) (get_or events i d) (is_some body) x.kind (drop (i + 1) events) is in
-    let here : written x ∷ rest ≡ record { kind = x.kind; events = slice_range events from (unwrap_or body i); body = body_up_to events body i } ∷ rest =
-    ap (λ es. record { kind = x.kind; events = es; body = x.body.now } ∷ rest) own ∙ ap (λ es. record { kind = x.kind; events = slice_range events from (unwrap_or body i); body = es } ∷ rest) begun in
-    let none : left events (i + 1) None (i + 1) ≡ rest = ap (λ es. with_front es [] rest) (between_none events (i + 1)) ∙ without_front rest in
+    let here : written x ∷ rest ≡ with_name x.kind (slice_range events from (unwrap_or body i)) (body_up_to events body i) ∷ rest =
+    ap (λ name. record { kind = x.kind; named = name; events = x.events.now; body = x.body.now } ∷ rest) named
+    ∙ (ap (λ es. with_name x.kind es x.body.now ∷ rest) own ∙ ap (λ es. with_name x.kind (slice_range events from (unwrap_or body i)) es ∷ rest) begun) in
+    let none : left events (i + 1) None (i + 1) ≡ rest = ap (λ es. with_front es [] rest) (between_none events (i + 1)) ∙ without_front false (drop (i + 1) events) in
     record {
       all = ap (λ ws. map written (ds ++ x ∷ []) ++ ws) none ∙ (ap (λ ws. ws ++ rest) (map_push written ds x)
           ∙ (append_assoc (map written ds) (written x ∷ []) rest ∙ (ap (λ ws. map written ds ++ ws) (here ∙ sym one) ∙ all)));

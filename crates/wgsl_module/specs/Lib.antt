@@ -4,6 +4,7 @@ pub mod Checked
 pub mod Control
 pub mod Declarations
 pub mod Flow
+pub mod Named
 pub mod Noted
 pub mod Order
 pub mod Runs

@@ -2,10 +2,12 @@
 use Rattle.std.specs.Prelude.{◌≡◌, ℕ, List, [], ◌∷◌, false, Option, Some, None, length, map, slice_get}
 use Rattle.wgsl_module.specs.Declarations.{Written, bodies_of, written, written_in}
 use Rattle.wgsl_module.specs.Noted.{Comes, DeclaresOverride, DeclaresResult, DeclaresValue, DeclaresVariable, Keeps, Reading, State, Uses, reading}
-use Rattle.wgsl_module.specs.Order.{HasEach}
+use Rattle.wgsl_module.specs.Named.{named_by}
+use Rattle.wgsl_module.specs.Order.{HasEach, IsBehind}
 use Rattle.wgsl_module.specs.declared.declaration.Declaration.{Declaration}
 use Rattle.wgsl_module.specs.declared.declaration.DeclarationKind.{DeclarationKind}
 use Rattle.wgsl_module.specs.declared.declaration.DeclarationKind.TheVariants as kinds
+use Rattle.wgsl_module.specs.declared.typing.fault.Fault.{Fault}
 use Rattle.wgsl_module.specs.declared.typing.known.Part.{Part}
 use Rattle.wgsl_reader.specs.Modules.{ReadsModule}
 use Rattle.wgsl_reader.specs.Reading.{kind_of}
@@ -68,21 +70,31 @@ AreBodies tokens ds s r = AreRuns tokens (bodies_of (map written ds)) s r
 
 -- A module
 
--- its declarations, each once, and behind them the bodies of its functions, in the order of the text
-abbrev pub IsModule : List Token → List Written → Reading → Reading → Type 0
-IsModule tokens ds s r = (order : List ℕ) × (between : Reading) × HasEach 0 (length ds) order
-    × AreDeclarations tokens ds order s between × AreRuns tokens (bodies_of ds) between r
+-- its declarations, each once, behind those that it names, but for one of these cycles, and behind them the bodies of its functions,
+-- in the order of the text
+abbrev pub IsModule : List ℕ → List Token → List Written → Reading → Reading → Type 0
+IsModule cycles tokens ds s r = (order : List ℕ) × (between : Reading) × HasEach 0 (length ds) order
+    × IsBehind (named_by s ds) cycles order × AreDeclarations tokens ds order s between × AreRuns tokens (bodies_of ds) between r
 
 -- nothing is read of this text, which has these tokens
 abbrev pub IsUnread : List ℕ → List Token → Reading → Type 0
 IsUnread text tokens s = (s.parts ≡ []) × (s.text ≡ text) × (s.tokens ≡ tokens)
 
--- the expressions of a module, by its events
-abbrev pub HasRuns : List ℕ → List Token → List Event → List Part → Type 0
-HasRuns text tokens events parts = (before : Reading) × (after : Reading) × IsUnread text tokens before
-    × IsModule tokens (written_in false events) before after × (parts ≡ after.parts)
+-- the expressions, the text and the tokens of a state
+abbrev pub IsUnreadAs : State → Reading → Type 0
+IsUnreadAs s r = (r.parts ≡ s.stack.parts) × (r.text ≡ s.stack.context.text) × (r.tokens ≡ s.stack.context.tokens)
 
--- the expressions of a module, by what the grammar reads of it
-abbrev pub HasParts : List ℕ → List Token → List Part → Type 0
-HasParts text tokens parts = (events : List Event) × (misread : List Misread) × ReadsModule (map kind_of tokens) events misread
-    × HasRuns text tokens events parts
+-- the expressions of a module by its events, which are read from a state on: one with these faults, and without cycles if it has none
+abbrev pub ReadsFrom : List Token → List Event → List Fault → State → List Part → Type 0
+ReadsFrom tokens events faults s parts = (before : Reading) × (after : Reading) × (cycles : List ℕ) × IsUnreadAs s before
+    × IsModule cycles tokens (written_in false events) before after × (parts ≡ after.parts) × (faults ≡ [] → cycles ≡ [])
+
+-- the expressions of a module, by its events
+abbrev pub HasRuns : List ℕ → List Token → List Event → List ℕ → List Part → Type 0
+HasRuns text tokens events cycles parts = (before : Reading) × (after : Reading) × IsUnread text tokens before
+    × IsModule cycles tokens (written_in false events) before after × (parts ≡ after.parts)
+
+-- the expressions of a module, by what the grammar reads of it: one with these faults, and without cycles if it has none
+abbrev pub HasParts : List ℕ → List Token → List Fault → List Part → Type 0
+HasParts text tokens faults parts = (events : List Event) × (misread : List Misread) × (cycles : List ℕ) × ReadsModule (map kind_of tokens) events misread
+    × HasRuns text tokens events cycles parts × (faults ≡ [] → cycles ≡ [])

@@ -415,7 +415,7 @@ fn is_stage(name: Option<Name>) -> bool {
 }
 
 /// Whether names are no expressions in the brackets of the attribute, or of one that WGSL doesn't have.
-fn takes_names(name: Option<Name>) -> bool
+pub fn takes_names(name: Option<Name>) -> bool
     ensures { result ≡ takes_names name }
 {
     matches!(name, None | Some(Name::Builtin | Name::Interpolate))

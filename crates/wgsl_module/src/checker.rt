@@ -2,6 +2,7 @@
 ghost use Rattle.std.specs.Prelude.{◌≡◌, []};
 ghost use Rattle.wgsl_module.specs.Noted.{Keeps, reading, state};
 ghost use Rattle.wgsl_module.specs.Runs.{cleared};
+ghost use Rattle.wgsl_module.specs.typing.Words.{word_at};
 
 use crate::attribute::{Attribute, Attributes, Owner};
 use crate::block::Loop;
@@ -107,7 +108,9 @@ impl<'t> Checker<'t> {
     }
 
     /// The text of the last of that many tokens.
-    pub fn word(&self, count: usize) -> &'t str {
+    pub fn word(&self, count: usize) -> &'t str
+        ensures { result.now ≡ word_at self.now.expressions.text.now self.now.expressions.tokens.now count }
+    {
         self.expressions.word(count)
     }
 

@@ -1,7 +1,7 @@
 // Which events of a module are a declaration.
 
-ghost use Rattle.std.specs.Prelude.{◌≡◌, ◌≤◌, IfOk, false, length, map, slice_range};
-ghost use Rattle.wgsl_module.specs.Declarations.{begun, body_up_to, ended, kind_of, written, written_in};
+ghost use Rattle.std.specs.Prelude.{◌≡◌, ◌<◌, ◌≤◌, ◌-◌, ◌^◌, IfOk, false, length, map, slice_range};
+ghost use Rattle.wgsl_module.specs.Declarations.{begun, body_up_to, deeper, ended, is_name, kind_of, name_of, written, written_in};
 
 use std::alloc::{AllocError, Global};
 use wgsl_reader::mark::Mark;
@@ -120,16 +120,36 @@ pub fn declarations<'t>(
     Ok(found)
 }
 
+/// How many attributes and template lists are open behind an event.
+fn deeper(mark: Mark, depth: usize) -> usize
+    ensures { depth < 2 ^ 64 - 1 → result ≡ deeper mark depth }
+{
+    match mark {
+        Mark::AttributeName | Mark::OpenTemplate => depth.saturating_add(1),
+        Mark::Attribute | Mark::Template => depth.saturating_sub(1),
+        _ => depth,
+    }
+}
+
+fn is_name(mark: Mark) -> bool
+    ensures { result ≡ is_name mark }
+{
+    matches!(mark, Mark::Name)
+}
+
 /// The number of tokens up to the name of a declaration: the first name outside of attributes and template lists.
-fn name_of(kind: DeclarationKind, events: &[Event]) -> Option<usize> {
+fn name_of(kind: DeclarationKind, events: &[Event]) -> Option<usize>
+    ensures { result ≡ name_of kind events.now }
+{
+    if kind == DeclarationKind::Assertion {
+        return None;
+    }
     let mut depth: usize = 0;
     for event in events {
-        match event.mark {
-            Mark::AttributeName | Mark::OpenTemplate => depth = depth.saturating_add(1),
-            Mark::Attribute | Mark::Template => depth = depth.saturating_sub(1),
-            Mark::Name if depth == 0 && kind != DeclarationKind::Assertion => return Some(event.at),
-            _ => {}
+        if is_name(event.mark) && depth == 0 {
+            return Some(event.at);
         }
+        depth = deeper(event.mark, depth);
     }
     None
 }

@@ -13,6 +13,7 @@ mod body;
 mod checker;
 mod control;
 mod declaration;
+mod declare;
 mod entry;
 mod field;
 mod flow;

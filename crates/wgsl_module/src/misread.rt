@@ -1,5 +1,5 @@
 // What the grammar doesn't read.
-ghost use Rattle.std.specs.Prelude.{◌≡◌, IfOk, List, map};
+ghost use Rattle.std.specs.Prelude.{◌≡◌, ℕ, IfOk, List, map};
 ghost use Rattle.wgsl_module.specs.Declarations.{written};
 ghost use Rattle.wgsl_module.specs.Noted.{Reading, state};
 ghost use Rattle.wgsl_module.specs.Runs.{IsModule};
@@ -51,8 +51,8 @@ fn unread(alloc: Global, text: Text<'_>, misread: Misread) -> Result<Fault, Allo
 impl<'t> Checker<'t> {
     /// Declares the names of what the grammar doesn't read, which are faulty.
     pub fn declare_misread(&mut self, all: &[Misread]) -> Result<(), AllocError>
-        ensures module { IfOk result (λ u. (tokens : List Token) (s r : Reading) → IsModule tokens (map written self.new.declarations.items) s r
-            → IsModule tokens (map written self.old.declarations.items) s r) }
+        ensures module { IfOk result (λ u. (cycles : List ℕ) (tokens : List Token) (s r : Reading)
+            → IsModule cycles tokens (map written self.new.declarations.items) s r → IsModule cycles tokens (map written self.old.declarations.items) s r) }
         ensures stack { (state self.new).stack ≡ (state self.old).stack }
     {
         for misread in all {

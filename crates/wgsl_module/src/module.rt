@@ -1,32 +1,30 @@
 // The check of a module.
-ghost use Rattle.std.specs.Prelude.{◌≡◌, ℕ, [], IfOk, List, length, map, option_map, slice_get, true};
+ghost use Rattle.std.specs.Prelude.{◌≡◌, ℕ, [], IfOk, List, false, length, map, option_map, slice_get, true};
 ghost use Rattle.wgsl_module.specs.Checked.{AreTyped, IsRead, TellsReading, are_known, told_of_reading};
-ghost use Rattle.wgsl_module.specs.Declarations.{written};
-ghost use Rattle.wgsl_module.specs.Noted.{Comes, Keeps, reading, source, state};
-ghost use Rattle.wgsl_module.specs.Order.{HasEach};
-ghost use Rattle.wgsl_module.specs.Runs.{AreDeclarations, Declares, Ends, HasParts, HasRuns, IsDeclaration, IsModule};
+ghost use Rattle.wgsl_module.specs.Declarations.{written, written_in};
+ghost use Rattle.wgsl_module.specs.Noted.{Keeps, Reading, reading, source, state};
+ghost use Rattle.wgsl_module.specs.Named.{named_by};
+ghost use Rattle.wgsl_module.specs.Order.{HasEach, HaveNames, IsBehind, IsNamed, cycling, name_at};
+ghost use Rattle.wgsl_module.specs.Runs.{AreDeclarations, HasParts, HasRuns, IsModule, ReadsFrom};
 ghost use Rattle.wgsl_module.specs.Told.{AreTold, broken};
+ghost use Rattle.wgsl_reader.specs.declared.token.Token.{Token};
 
-use crate::attribute::{Attributes, Owner};
-use crate::checker::{Checker, Interface};
+use crate::checker::Checker;
 use crate::control::faults_of_control;
-use crate::declaration::{Declaration, DeclarationKind, declarations};
+use crate::declaration::{Declaration, declarations};
 use crate::misread::faults_of_misread;
 use crate::told::{in_order, joined};
-use crate::typing::expressions::{Expressions, Named};
-use crate::typing::extension::is_required;
+use crate::typing::expressions::Named;
 use crate::typing::fault::{Fault, Place, Rule};
-use crate::typing::known::{Known, Part, Typed};
-use crate::typing::scope::{Bound, Locals};
+use crate::typing::known::{Known, Part};
+use crate::typing::scope::Bound;
 use crate::untyped::{are_known, tell_untyped};
-use crate::walk::Link;
+use crate::walk::{Link, Walk};
 use std::alloc::{AllocError, Global};
-use wgsl_forms::declare::Declaration as Form;
+use std::mem::replace;
 use wgsl_reader::kind::Kind;
-use wgsl_reader::mark::Mark;
 use wgsl_reader::module::{Misread, Module, read_module};
 use wgsl_reader::token::Token;
-use wgsl_source::fault::{Cause, ExtensionKind};
 use wgsl_source::text::{Text, tokens};
 
 /// What is found of a module: its expressions, and what is wrong.
@@ -54,7 +52,7 @@ pub fn check<'t>(
     ensures reading { IfOk result (λ c. TellsReading c.tokens.items c.faults.items) }
     ensures read { IfOk result (λ c. c.faults.items ≡ [] → IsRead c.tokens.items) }
     ensures typed { IfOk result (λ c. are_known given.entry.items ≡ true → c.faults.items ≡ [] → AreTyped c.parts.items) }
-    ensures parts { IfOk result (λ c. HasParts text.now c.tokens.items c.parts.items) }
+    ensures parts { IfOk result (λ c. HasParts text.now c.tokens.items c.faults.items c.parts.items) }
 {
     let tokens = tokens(alloc, text.as_bytes())?;
     let grammar = read_module(alloc, &tokens)?;
@@ -76,32 +74,13 @@ fn read_all<'t>(
     grammar: &'t Module,
 ) -> Result<Checked, AllocError>
     ensures told { IfOk result (λ c. AreTold (told_of_reading tokens.now grammar.now.events.items grammar.now.misread.items) c.faults.items) }
-    ensures parts { IfOk result (λ c. HasRuns text.now tokens.now grammar.now.events.items c.parts.items) }
+    ensures parts { IfOk result (λ c. (cycles : List ℕ) × HasRuns text.now tokens.now grammar.now.events.items cycles c.parts.items
+        × (c.faults.items ≡ [] → cycles ≡ [])) }
 {
     let mut checker = Checker::none(alloc, text, tokens);
-    checker.declarations = declarations(alloc, &grammar.events)?;
-    checker.declare_misread(&grammar.misread)?;
-    checker.check_all(tokens, given)?;
-    let Checker { expressions, .. } = checker;
-    let Expressions {
-        parts,
-        faults,
-        declared,
-        override_counts,
-        locals,
-        ..
-    } = expressions;
-    let Locals { closed, .. } = locals;
-    let own = faults_of_reading(alloc, text, tokens, grammar)?;
-    Ok(Checked {
-        parts,
-        faults: in_order(alloc, faults, own)?,
-        tokens: Vec::new(alloc),
-        misread: Vec::new(alloc),
-        counts: override_counts,
-        declared,
-        locals: closed,
-    })
+    let checked = checker.checked(text, tokens, grammar, given);
+    drop(checker);
+    checked
 }
 
 /// What is told of a module by what the grammar reads of it alone.
@@ -150,46 +129,135 @@ pub fn unreadable(
 }
 
 impl<'t> Checker<'t> {
+    /// Checks a module, of which nothing is read yet. What is found is taken.
+    fn checked(
+        &mut self,
+        text: &str,
+        tokens: &[Token],
+        grammar: &'t Module,
+        given: Vec<(&'t str, Known)>,
+    ) -> Result<Checked, AllocError>
+        ensures told { IfOk result (λ c. AreTold (told_of_reading tokens.now grammar.now.events.items grammar.now.misread.items) c.faults.items) }
+        ensures parts { IfOk result (λ c. ReadsFrom tokens.now grammar.now.events.items c.faults.items (state self.old) c.parts.items) }
+    {
+        self.read(tokens, grammar, given)?;
+        let found = self.found(text, tokens, grammar)?;
+        Ok(found)
+    }
+
+    /// Reads the module, and checks it.
+    fn read(
+        &mut self,
+        tokens: &[Token],
+        grammar: &'t Module,
+        given: Vec<(&'t str, Known)>,
+    ) -> Result<(), AllocError>
+        ensures { IfOk result (λ u. ReadsFrom tokens.now grammar.now.events.items self.new.expressions.faults.items (state self.old) (state self.new).stack.parts) }
+    {
+        match self.declare_written(grammar) {
+            Ok(()) => {}
+            Err(error) => {
+                drop(given);
+                return Err(error);
+            }
+        }
+        self.check_all(tokens, given)?;
+        Ok(())
+    }
+
+    /// Finds the declarations of a module, and the names of what the grammar doesn't read.
+    fn declare_written(&mut self, grammar: &'t Module) -> Result<(), AllocError>
+        ensures module { IfOk result (λ u. (cycles : List ℕ) (tokens : List Token) (s r : Reading)
+            → IsModule cycles tokens (map written self.new.declarations.items) s r → IsModule cycles tokens (written_in false grammar.now.events.items) s r) }
+        ensures stack { (state self.new).stack ≡ (state self.old).stack }
+    {
+        self.declarations = declarations(self.expressions.alloc, &grammar.events)?;
+        self.declare_misread(&grammar.misread)?;
+        Ok(())
+    }
+
+    /// What is found, without tokens and what is misread; it is taken.
+    fn found(
+        &mut self,
+        text: &str,
+        tokens: &[Token],
+        grammar: &Module,
+    ) -> Result<Checked, AllocError>
+        ensures told { IfOk result (λ c. AreTold (told_of_reading tokens.now grammar.now.events.items grammar.now.misread.items) c.faults.items) }
+        ensures parts { IfOk result (λ c. c.parts.items ≡ self.old.expressions.parts.items) }
+        ensures faults { IfOk result (λ c. c.faults.items ≡ [] → self.old.expressions.faults.items ≡ []) }
+    {
+        let alloc = self.expressions.alloc;
+        let own = faults_of_reading(alloc, text, tokens, grammar)?;
+        let told = replace(&mut self.expressions.faults, Vec::new(alloc));
+        let faults = in_order(alloc, told, own)?;
+        let locals = &mut self.expressions.locals;
+        let closed = replace(&mut locals.closed, Vec::new(alloc));
+        Ok(Checked {
+            parts: replace(&mut self.expressions.parts, Vec::new(alloc)),
+            faults,
+            tokens: Vec::new(alloc),
+            misread: Vec::new(alloc),
+            counts: replace(&mut self.expressions.override_counts, Vec::new(alloc)),
+            declared: replace(&mut self.expressions.declared, Vec::new(alloc)),
+            locals: closed,
+        })
+    }
+
     fn check_all(
         &mut self,
         tokens: &[Token],
         given: Vec<(&'t str, Known)>,
     ) -> Result<(), AllocError>
-        ensures { IfOk result (λ u. IsModule tokens.now (map written self.old.declarations.items) (reading (state self.old)) (reading (state self.new))) }
+        ensures { IfOk result (λ u. (cycles : List ℕ) × IsModule cycles tokens.now (map written self.old.declarations.items) (reading (state self.old)) (reading (state self.new))
+            × (self.new.expressions.faults.items ≡ [] → cycles ≡ [])) }
     {
-        self.declare_all(tokens, given)?;
+        let cycles = self.declare_all(tokens, given)?;
         self.read_bodies(tokens)?;
         self.check_calls()?;
         self.check_entry_points()?;
+        self.tell_cycle(&cycles)?;
         Ok(())
     }
 
-    /// Reads the declarations, each behind those that it needs.
+    /// Says that a declaration needs itself, if nothing else is told.
+    fn tell_cycle(&mut self, cycles: &[(usize, Place)]) -> Result<(), AllocError>
+        ensures reading { Keeps (state self.old) (state self.new) }
+        ensures told { IfOk result (λ u. self.new.expressions.faults.items ≡ [] → cycling cycles.now ≡ []) }
+    {
+        match cycles.first() {
+            Some((_, place)) if self.expressions.faults.is_empty() => self
+                .expressions
+                .tell(Rule::Cycle, *place, "this declaration needs itself"),
+            _ => Ok(()),
+        }
+    }
+
+    /// Reads the declarations, each behind those that it needs. Returns which need themselves, and where.
     fn declare_all(
         &mut self,
         tokens: &[Token],
         given: Vec<(&'t str, Known)>,
-    ) -> Result<(), AllocError>
-        ensures declarations { IfOk result (λ u. (order : List ℕ) × HasEach 0 (length (map written self.old.declarations.items)) order
+    ) -> Result<Vec<(usize, Place)>, AllocError>
+        ensures declarations { IfOk result (λ cycles. (order : List ℕ) × HasEach 0 (length (map written self.old.declarations.items)) order
+            × IsBehind (named_by (reading (state self.old)) (map written self.old.declarations.items)) (cycling cycles.items) order
             × AreDeclarations tokens.now (map written self.old.declarations.items) order (reading (state self.old)) (reading (state self.new))) }
         ensures source { IfOk result (λ u. source (state self.new) ≡ source (state self.old)) }
     {
         self.name_all()?;
-        for (name, known) in given {
-            self.give(name, known)?;
-        }
         let named = self.walk(0, self.declarations.len(), Link::Name)?;
+        self.give_all(given)?;
         self.declare_in(tokens, &named.order)?;
-        Ok(())
+        let Walk { cycles, .. } = named;
+        Ok(cycles)
     }
 
-    /// Reads the declarations with these indices.
-    fn declare_in(&mut self, tokens: &[Token], order: &[usize]) -> Result<(), AllocError>
-        ensures declarations { IfOk result (λ u. AreDeclarations tokens.now (map written self.old.declarations.items) order.now (reading (state self.old)) (reading (state self.new))) }
-        ensures source { IfOk result (λ u. source (state self.new) ≡ source (state self.old)) }
+    /// Gives these names their meanings, unless they have others.
+    fn give_all(&mut self, given: Vec<(&'t str, Known)>) -> Result<(), AllocError>
+        ensures { Keeps (state self.old) (state self.new) }
     {
-        for index in order {
-            self.declare(tokens, *index)?;
+        for (name, known) in given {
+            self.give(name, known)?;
         }
         Ok(())
     }
@@ -213,13 +281,15 @@ impl<'t> Checker<'t> {
     }
 
     /// How many tokens there are up to the name of a declaration, if it has one.
-    pub fn named(&self, index: usize) -> Option<usize> {
+    pub fn named(&self, index: usize) -> Option<usize>
+        ensures { result ≡ name_at self.now.declarations.items index }
+    {
         self.declaration(index)?.named
     }
 
     /// Adds to the last fault where a declaration is.
     fn refer(&mut self, index: usize) -> Result<(), AllocError>
-        ensures { Keeps (state self.old) (state self.new) }
+        ensures { state self.new ≡ state self.old }
     {
         match self.named(index) {
             Some(named) => self.expressions.refer(named),
@@ -227,10 +297,12 @@ impl<'t> Checker<'t> {
         }
     }
 
-    /// Gives the declarations their names. If two have one name, the first keeps it.
+    /// Gives the declarations their names.
     fn name_all(&mut self) -> Result<(), AllocError>
-        ensures { Keeps (state self.old) (state self.new) }
+        ensures reading { Keeps (state self.old) (state self.new) }
+        ensures names { IfOk result (λ u. HaveNames self.new (map written self.new.declarations.items)) }
     {
+        self.expressions.names.clear();
         for index in 0..self.declarations.len() {
             let named = self.named(index);
             self.expressions
@@ -238,19 +310,31 @@ impl<'t> Checker<'t> {
                 .push(Named { named, known: None })?;
             self.interfaces.push(None)?;
             self.doings.push(None)?;
-            let Some(named) = named else {
-                continue;
-            };
-            let name = self.word(named);
-            let first = self.expressions.names.get(&name).copied();
-            if let Some(first) = first {
-                self.tell_name(Rule::Duplicate, named, "is declared twice")?;
-                self.refer(first)?;
-            } else {
-                self.expressions.names.insert(name, index)?;
-            }
+            self.name(index)?;
         }
         Ok(())
+    }
+
+    /// Gives a declaration its name. If another one has it, that one keeps it.
+    fn name(&mut self, index: usize) -> Result<(), AllocError>
+        ensures reading { Keeps (state self.old) (state self.new) }
+        ensures names { IfOk result (λ u. IsNamed self.old (name_at self.old.declarations.items index) index self.new) }
+    {
+        let Some(named) = self.named(index) else {
+            return Ok(());
+        };
+        let name = self.word(named);
+        match self.expressions.names.get(&name).copied() {
+            Some(first) => {
+                self.expressions
+                    .tell_name(Rule::Duplicate, named, "is declared twice")?;
+                self.refer(first)
+            }
+            None => {
+                self.expressions.names.insert(name, index)?;
+                Ok(())
+            }
+        }
     }
 
     /// Gives a name this meaning, unless it has another one.
@@ -266,176 +350,5 @@ impl<'t> Checker<'t> {
             self.expressions.names.insert(name, index)?;
         }
         Ok(())
-    }
-
-    /// Reads a declaration behind those that it needs.
-    fn declare(&mut self, tokens: &[Token], index: usize) -> Result<(), AllocError>
-        ensures declaration { IfOk result (λ u. IsDeclaration tokens.now (option_map written (slice_get self.old.declarations.items index)) (reading (state self.old)) (reading (state self.new))) }
-        ensures source { IfOk result (λ u. source (state self.new) ≡ source (state self.old)) }
-    {
-        self.clear();
-        let Some(declaration) = self.declaration(index) else {
-            return Ok(());
-        };
-        self.begin_declaration(declaration)?;
-        let known = self.read_declaration(tokens, index, declaration)?;
-        self.expressions.put_known(index, Some(known));
-        Ok(())
-    }
-
-    /// Directives enable extensions, and filter diagnostics together: the attributes of others filter on their own.
-    fn begin_declaration(&mut self, declaration: Declaration<'t>) -> Result<(), AllocError>
-        ensures { IfOk result (λ u. Keeps (state self.old) (state self.new)) }
-    {
-        match declaration.kind {
-            DeclarationKind::Enable | DeclarationKind::Directive => self.tell_extensions(
-                declaration,
-            ),
-            _ => {
-                self.filters.clear();
-                Ok(())
-            }
-        }
-    }
-
-    /// Enables extensions, and says which names are none.
-    fn tell_extensions(&mut self, declaration: Declaration<'t>) -> Result<(), AllocError>
-        ensures { Keeps (state self.old) (state self.new) }
-    {
-        for event in declaration.events {
-            let name = self.word(event.at);
-            let is_known = match (event.mark, declaration.kind) {
-                (Mark::Extension, DeclarationKind::Enable) => {
-                    self.expressions.extensions.enable(name)
-                }
-                (Mark::Extension, _) => is_required(name),
-                _ => true,
-            };
-            if !is_known {
-                let kind = match declaration.kind {
-                    DeclarationKind::Enable => ExtensionKind::Enabled,
-                    _ => ExtensionKind::Required,
-                };
-                self.tell_name(Rule::Extension, event.at, "is no extension")?;
-                self.suggest(event.at, Cause::UnknownExtension(kind))?;
-            }
-        }
-        Ok(())
-    }
-
-    /// Reads a declaration. Returns what its name stands for.
-    fn read_declaration(
-        &mut self,
-        tokens: &[Token],
-        index: usize,
-        declaration: Declaration<'t>,
-    ) -> Result<Known, AllocError>
-        ensures declaration { IfOk result (λ k. Declares tokens.now declaration.entry.kind declaration.entry.events.now (state self.old) (state self.new)) }
-        ensures source { IfOk result (λ k. source (state self.new) ≡ source (state self.old)) }
-    {
-        let attributes = self.read_events(tokens, declaration)?;
-        self.end_declaration(index, declaration, attributes)
-    }
-
-    /// Reads the events of a declaration. Returns its attributes.
-    fn read_events(
-        &mut self,
-        tokens: &[Token],
-        declaration: Declaration<'t>,
-    ) -> Result<Attributes, AllocError>
-        ensures events { IfOk result (λ a. Comes tokens.now declaration.entry.events.now (state self.old) (state self.new)) }
-        ensures source { IfOk result (λ a. source (state self.new) ≡ source (state self.old)) }
-    {
-        let named = declaration.named.unwrap_or(0);
-        let split = declaration.events.partition_point(|event| event.at < named);
-        let (front, rest) = declaration.events.split_at(split);
-        self.owner = match declaration.kind {
-            DeclarationKind::Variable => Owner::Variable,
-            DeclarationKind::Override => Owner::Override,
-            _ => Owner::Function,
-        };
-        self.steps(tokens, front)?;
-        let attributes = self.take_attributes();
-        self.owner = match declaration.kind {
-            DeclarationKind::Struct => Owner::Member,
-            _ if attributes.have_stage => Owner::InOut,
-            _ => Owner::Plain,
-        };
-        self.interface = Some(Interface {
-            fields: Vec::new(self.expressions.alloc),
-            result: None,
-            attributes,
-        });
-        self.steps(tokens, rest)?;
-        Ok(attributes)
-    }
-
-    /// Takes what the events of a declaration have left. Returns what its name stands for.
-    fn end_declaration(
-        &mut self,
-        index: usize,
-        declaration: Declaration<'t>,
-        attributes: Attributes,
-    ) -> Result<Known, AllocError>
-        ensures taken { IfOk result (λ k. Ends declaration.entry.kind (state self.old) (state self.new)) }
-        ensures source { IfOk result (λ k. source (state self.new) ≡ source (state self.old)) }
-    {
-        let named = declaration.named.unwrap_or(0);
-        match declaration.kind {
-            DeclarationKind::Const => {
-                let (_, value) = self.read_value(Form::Const)?;
-                Ok(known_value(value, attributes))
-            }
-            DeclarationKind::Override => {
-                let value = self.read_override(named, attributes)?;
-                Ok(known_value(value, attributes))
-            }
-            DeclarationKind::Variable => {
-                let value = self.read_global(named, attributes)?;
-                Ok(known_value(value, attributes))
-            }
-            DeclarationKind::Alias => match self.expressions.take_type()? {
-                (_, Some(ty)) => Ok(Known::Type(ty)),
-                (_, None) => Ok(Known::Faulty),
-            },
-            DeclarationKind::Assertion => {
-                self.assert()?;
-                Ok(Known::Faulty)
-            }
-            DeclarationKind::Struct | DeclarationKind::Function => {
-                self.read_interface(index, declaration.kind, named)
-            }
-            DeclarationKind::Enable | DeclarationKind::Directive | DeclarationKind::Misread => {
-                Ok(Known::Faulty)
-            }
-        }
-    }
-
-    /// What a struct or a function with the fields that are read stands for.
-    fn read_interface(
-        &mut self,
-        index: usize,
-        kind: DeclarationKind,
-        named: usize,
-    ) -> Result<Known, AllocError>
-        ensures { IfOk result (λ k. Keeps (state self.old) (state self.new)) }
-    {
-        let Some(interface) = self.interface.take() else {
-            return Ok(Known::Faulty);
-        };
-        let known = match kind {
-            DeclarationKind::Struct => self.structure(named, &interface.fields)?,
-            _ => self.signature(named, &interface)?,
-        };
-        self.keep(index, interface);
-        Ok(known)
-    }
-}
-
-/// A value, if neither it nor an attribute has a fault.
-fn known_value(value: Option<Typed>, attributes: Attributes) -> Known {
-    match value {
-        Some(typed) if attributes.are_fine => Known::Value(typed),
-        _ => Known::Faulty,
     }
 }

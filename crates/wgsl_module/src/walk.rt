@@ -1,12 +1,19 @@
 // Declarations that lead to one another: the order in which they are read, and which functions call which.
-ghost use Rattle.std.specs.Prelude.{◌≡◌, ℕ, ◌≤◌, ◌<◌, IfOk, Some, true, length, slice_get};
-ghost use Rattle.wgsl_module.specs.Order.{HasEach, IsOrder, StaysDone, is_done};
+ghost use Rattle.std.specs.Prelude.{◌≡◌, ◌∷◌, [], ◌≤◌, IfOk, MatchOption, Some, length, slice_get};
+ghost use Rattle.wgsl_module.specs.Declarations.{written};
+ghost use Rattle.wgsl_module.specs.Named.{are_words, is_colon, is_own, named_at, named_from, used};
+ghost use Rattle.wgsl_module.specs.Order.{Begins, GoesOn, HasEach, IsBehind, IsClosed, call_at, cycling, leads_from, leads_of, naming_of};
+ghost use Rattle.wgsl_module.specs.typing.Words.{kind_of_any, word_at};
 
+use crate::attribute::attribute_named;
+use crate::attributes::takes_names;
 use crate::checker::Checker;
+use crate::declaration::Declaration;
 use crate::typing::fault::Place;
 use std::alloc::AllocError;
 use wgsl_reader::kind::Kind;
 use wgsl_reader::mark::Mark;
+use wgsl_reader::read::Event;
 
 /// How a declaration leads to another one.
 #[derive(Clone, Copy)]
@@ -26,11 +33,15 @@ enum State {
     Done,
 }
 
-/// How far each declaration is followed, and the indices of those that are done.
+/// How far declarations are followed.
 #[derive(Drop)]
 struct Order {
     states: Vec<State>,
+    /// Those that are followed now, each led to by the one in front of it, and from where on.
+    stack: Vec<(usize, usize)>,
+    /// Those that are done.
     indices: Vec<usize>,
+    cycles: Vec<(usize, Place)>,
 }
 
 /// What is found where declarations are followed.
@@ -45,37 +56,28 @@ pub struct Walk {
 impl<'t> Checker<'t> {
     /// Follows the declarations from one index up to another.
     pub fn walk(&self, from: usize, to: usize, link: Link) -> Result<Walk, AllocError>
-        ensures { IfOk result (λ w. to ≤ length self.now.declarations.items → HasEach from to w.order.items) }
+        ensures each { IfOk result (λ w. to ≤ length self.now.declarations.items → HasEach from to w.order.items) }
+        ensures behind { IfOk result (λ w. IsBehind (leads_of self.now link) (cycling w.cycles.items) w.order.items) }
     {
         let alloc = self.expressions.alloc;
         let mut order = Order {
             states: vec![in alloc; State::Unseen; self.declarations.len()]?,
+            stack: Vec::new(alloc),
             indices: Vec::new(alloc),
+            cycles: Vec::new(alloc),
         };
-        let (mut cycles, mut open) = (Vec::new(alloc), Vec::new(alloc));
         for root in from..to {
-            if order.is_opened(root) {
-                open.push((root, 0usize))?;
+            order.begin(root)?;
+            while let Some((index, at)) = order.stack.pop() {
+                let next = self.next(link, index, at);
+                order.go_on(index, next)?;
             }
-            for _ in 0..u64::MAX {
-                let Some((index, at)) = open.pop() else {
-                    break;
-                };
-                let Some((next, place, behind)) = self.next(link, index, at) else {
-                    order.close(index)?;
-                    continue;
-                };
-                open.push((index, behind))?;
-                if order.is_opened(next) {
-                    open.push((next, 0))?;
-                } else if order.state(next) == Some(State::Open) {
-                    cycles.push((next, place))?;
-                }
-            }
-            // Done already, unless the bound above was met.
-            order.close(root)?;
         }
-        let Order { indices, .. } = order;
+        let Order {
+            indices,
+            cycles,
+            ..
+        } = order;
         Ok(Walk {
             order: indices,
             cycles,
@@ -83,44 +85,93 @@ impl<'t> Checker<'t> {
     }
 
     /// What a declaration leads to next, from an index of its events or calls on; where, and the index behind that.
-    fn next(&self, link: Link, index: usize, at: usize) -> Option<(usize, Place, usize)> {
+    fn next(&self, link: Link, index: usize, at: usize) -> Option<(usize, Place, usize)>
+        ensures { MatchOption result (leads_from self.now link index at ≡ []) (λ r. leads_from self.now link index at ≡ r.0 ∷ leads_from self.now link index r.2) }
+    {
         match link {
             Link::Name => self.next_named(index, at),
             Link::Call => {
-                let (callee, place) = self.doings.get(index)?.as_ref()?.calls.get(at).copied()?;
+                let (callee, place) = self.call(index, at)?;
                 Some((callee, place, at.saturating_add(1)))
             }
         }
     }
 
+    /// The call with an index in the body of a declaration.
+    fn call(&self, index: usize, at: usize) -> Option<(usize, Place)>
+        ensures { result ≡ call_at (slice_get self.now.doings.items index) at }
+    {
+        self.doings.get(index)?.as_ref()?.calls.get(at).copied()
+    }
+
     /// The next declaration that one names, from an event on.
-    fn next_named(&self, index: usize, at: usize) -> Option<(usize, Place, usize)> {
-        let declaration = self.declarations.get(index)?;
-        let mut is_skipped = false;
-        for (offset, event) in declaration.events.get(at..)?.iter().enumerate() {
-            match event.mark {
-                Mark::AttributeName => {
-                    is_skipped = matches!(self.word(event.at), "builtin" | "interpolate");
-                }
-                Mark::Attribute => is_skipped = false,
-                Mark::Name if !is_skipped && Some(event.at) != declaration.named => {
-                    if let Some(named) = self.used(event.at) {
-                        let behind = at.saturating_add(offset).saturating_add(1);
-                        return Some((named, Place::last_of(event.at), behind));
-                    }
-                }
-                _ => {}
+    fn next_named(&self, index: usize, at: usize) -> Option<(usize, Place, usize)>
+        ensures { MatchOption result (leads_from self.now Link.Name index at ≡ []) (λ r. leads_from self.now Link.Name index at ≡ r.0 ∷ leads_from self.now Link.Name index r.2) }
+    {
+        self.first_named(self.declaration(index)?, at)
+    }
+
+    /// The first declaration that a declaration names from an event on.
+    #[tactic(auto, using(crate::proofs::Named::no_words))]
+    fn first_named(&self, declaration: Declaration<'t>, at: usize) -> Option<(usize, Place, usize)>
+        ensures { MatchOption result (named_from (naming_of self.now) (Some (written declaration.entry)) at ≡ []) (λ r. named_from (naming_of self.now) (Some (written declaration.entry)) at
+            ≡ r.0 ∷ named_from (naming_of self.now) (Some (written declaration.entry)) r.2) }
+    {
+        let mut are_words = false;
+        for k in at..declaration.events.len() {
+            let event = declaration.events[k];
+            if let Some(named) = self.named_at(event, declaration.named, are_words) {
+                return Some((named, Place::last_of(event.at), k + 1));
             }
+            are_words = self.are_words(event, are_words);
         }
         None
     }
 
+    /// Whether names behind an event are words of an attribute, as in `@builtin(position)`.
+    fn are_words(&self, event: Event, before: bool) -> bool
+        ensures { result ≡ are_words event.mark (word_at self.now.expressions.text.now self.now.expressions.tokens.now event.at) before }
+    {
+        match event.mark {
+            Mark::AttributeName => takes_names(attribute_named(self.word(event.at))),
+            Mark::Attribute => false,
+            _ => before,
+        }
+    }
+
+    /// The declaration that an event names, but for the own name of the declaration that it is in.
+    fn named_at(&self, event: Event, own: Option<usize>, are_words: bool) -> Option<usize>
+        ensures { result ≡ named_at (naming_of self.now) event.mark own are_words event.at }
+    {
+        match event.mark {
+            Mark::Name if !are_words && !is_own(own, event.at) => self.used(event.at),
+            _ => None,
+        }
+    }
+
     /// The declaration that is named, if it isn't the name of a member or a parameter.
-    fn used(&self, count: usize) -> Option<usize> {
-        if self.expressions.token(count).kind == Kind::Colon {
+    fn used(&self, count: usize) -> Option<usize>
+        ensures { result ≡ used (naming_of self.now) (is_colon (kind_of_any (slice_get self.now.expressions.tokens.now count))) count }
+    {
+        if is_colon(self.expressions.token(count).kind) {
             return None;
         }
         self.expressions.names.get(&self.word(count)).copied()
+    }
+}
+
+fn is_colon(kind: Kind) -> bool
+    ensures { result ≡ is_colon kind }
+{
+    matches!(kind, Kind::Colon)
+}
+
+fn is_own(own: Option<usize>, count: usize) -> bool
+    ensures { result ≡ is_own own count }
+{
+    match own {
+        Some(own) => own == count,
+        None => false,
     }
 }
 
@@ -131,42 +182,43 @@ impl Order {
         self.states.get(index).copied()
     }
 
-    /// Whether a declaration isn't seen yet. From then on it is open.
-    fn is_opened(&mut self, index: usize) -> bool
-        ensures done { (i : ℕ) → is_done (slice_get self.new.states.items i) ≡ is_done (slice_get self.old.states.items i) }
-        ensures len { length self.new.states.items ≡ length self.old.states.items }
-        ensures indices { self.new.indices.items ≡ self.old.indices.items }
+    /// Opens a declaration that isn't seen yet.
+    fn begin(&mut self, root: usize) -> Result<(), AllocError>
+        ensures { IfOk result (λ u. Begins (slice_get self.old.states.items root) root self.old self.new) }
     {
-        match self.state(index) {
-            Some(State::Unseen) => {
-                self.states[index] = State::Open;
-                true
-            }
-            _ => false,
+        if let Some(State::Unseen) = self.state(root) {
+            self.states[root] = State::Open;
+            self.stack.push((root, 0))?;
         }
+        Ok(())
+    }
+
+    /// Goes on behind what a declaration leads to next, or puts it behind those that are done.
+    fn go_on(&mut self, index: usize, next: Option<(usize, Place, usize)>) -> Result<(), AllocError>
+        ensures { IfOk result (λ u. GoesOn index next self.old self.new) }
+    {
+        let Some((next, place, behind)) = next else {
+            return self.close(index);
+        };
+        self.stack.push((index, behind))?;
+        match self.state(next) {
+            Some(State::Open) => self.cycles.push((next, place))?,
+            _ => self.begin(next)?,
+        }
+        Ok(())
     }
 
     /// Puts a declaration behind those that are done, unless it is one of them.
     fn close(&mut self, index: usize) -> Result<(), AllocError>
-        ensures order { IfOk result (λ u. IsOrder self.old.states.items self.old.indices.items → IsOrder self.new.states.items self.new.indices.items) }
-        ensures kept { IfOk result (λ u. StaysDone self.old.states.items self.new.states.items) }
-        ensures done { IfOk result (λ u. index < length self.old.states.items → is_done (slice_get self.new.states.items index) ≡ true) }
-        ensures len { length self.new.states.items ≡ length self.old.states.items }
+        ensures { IfOk result (λ u. IsClosed (slice_get self.old.states.items index) index self.old self.new) }
     {
-        let Some(state) = self.state(index) else {
-            return Ok(());
-        };
-        if is_done(state) {
-            return Ok(());
+        match self.state(index) {
+            None | Some(State::Done) => {}
+            _ => {
+                self.states[index] = State::Done;
+                self.indices.push(index)?;
+            }
         }
-        self.states[index] = State::Done;
-        self.indices.push(index)?;
         Ok(())
     }
-}
-
-fn is_done(state: State) -> bool
-    ensures { result ≡ is_done (Some state) }
-{
-    matches!(state, State::Done)
 }

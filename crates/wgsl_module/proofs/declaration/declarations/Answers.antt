@@ -22,7 +22,7 @@ loop-index-preserved c =
     let begun : c.body_up_to.result.now ≡ body_up_to c.args.events.now c.loop-index.body c.loop-index.index = c.body_up_to.ensures (omega (arith, inside)) in
     subst (λ ds. Found c.args.events.now ds (c.loop-index.index + 1) None (c.loop-index.index + 1)) (sym c.in_ok-push.ensures.items)
     (found_one c.args.events.now c.loop-index.found.items c.loop-index.from c.loop-index.body c.loop-index.index _ _ inside
-    (ap (ended _) (sym c.is_some.ensures) ∙ (sym c.ended.ensures ∙ c.in-Some.is)) own begun c.loop-index.invariant)
+    (ap (ended _) (sym c.is_some.ensures) ∙ (sym c.ended.ensures ∙ c.in-Some.is)) own begun c.name_of.ensures c.loop-index.invariant)
 
 pub returns : goal.returns
 returns c =

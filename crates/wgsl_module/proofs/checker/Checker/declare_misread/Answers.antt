@@ -9,12 +9,12 @@ use Rattle.wgsl_module.proofs.checker.Checker.declare_misread.Goals.{in-Some+in_
 pub loop-misread-preserved : goal.loop-misread-preserved
 loop-misread-preserved c = elim c.match-misread_name.branch [
   | in-Some+in_ok-push w ↦ (
-    λ tokens s r is. c.loop-misread.invariant.0 tokens s r (misread_pushed tokens _ _ _ s r w.in_ok-push.ensures.items refl refl
-        (subst (λ k. IsModule tokens (map written k.declarations.items) s r) w.self-is is)),
+    λ cycles tokens s r is. c.loop-misread.invariant.0 cycles tokens s r (misread_pushed cycles tokens _ _ _ s r w.in_ok-push.ensures.items refl refl
+        (subst (λ k. IsModule cycles tokens (map written k.declarations.items) s r) w.self-is is)),
     ap (λ s. (state s).stack) w.self-is ∙ c.loop-misread.invariant.1,
   )
   | in_default w ↦ (
-    λ tokens s r is. c.loop-misread.invariant.0 tokens s r (subst (λ k. IsModule tokens (map written k.declarations.items) s r) w.self-is is),
+    λ cycles tokens s r is. c.loop-misread.invariant.0 cycles tokens s r (subst (λ k. IsModule cycles tokens (map written k.declarations.items) s r) w.self-is is),
     ap (λ s. (state s).stack) w.self-is ∙ c.loop-misread.invariant.1,
   )
 ]

@@ -1,4 +1,4 @@
-use Rattle.std.proofs.Common.{◌≡◌, List, map}
+use Rattle.std.proofs.Common.{◌≡◌, ℕ, List, map}
 use Rattle.wgsl_module.specs.Declarations.{written}
 use Rattle.wgsl_module.specs.Noted.{Reading, state}
 use Rattle.wgsl_module.specs.Runs.{IsModule}
@@ -8,5 +8,5 @@ use Rattle.wgsl_module.proofs.checker.Checker.declare_misread.Given as goal
 -- what is read of the declarations is that of those that were there
 abbrev pub invariant-loop-misread : goal.invariant-loop-misread
 invariant-loop-misread l =
-    ((tokens : List Token) (s r : Reading) → IsModule tokens (map written l.self.declarations.items) s r
-    → IsModule tokens (map written l.fn.self.declarations.items) s r) × ((state l.self).stack ≡ (state l.fn.self).stack)
+    ((cycles : List ℕ) (tokens : List Token) (s r : Reading) → IsModule cycles tokens (map written l.self.declarations.items) s r
+    → IsModule cycles tokens (map written l.fn.self.declarations.items) s r) × ((state l.self).stack ≡ (state l.fn.self).stack)

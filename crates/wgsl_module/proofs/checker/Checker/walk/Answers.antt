@@ -1,9 +1,35 @@
-use Rattle.wgsl_module.proofs.Order.{one_closed, one_further}
+use Rattle.std.proofs.Common.{◌∙◌, ◌++◌, [], ap, refl, sym}
+use Rattle.wgsl_module.specs.Order.{leads_from}
+use Rattle.wgsl_module.proofs.Walked.{all_behind, all_there, begun_root, goes_on, less_work, moves, none_of, root_done, taken_off}
 use Rattle.wgsl_module.proofs.checker.Checker.walk.Goals as goal
 
-pub loop-preserved-in_default-next : goal.loop-preserved-in_default-next
-loop-preserved-in_default-next c = one_closed _ _ _ _ _ _ _ c.in_ok-close.ensures.order c.in_ok-close.ensures.kept c.in_ok-close.ensures.len c.loop.invariant
+pub loop-index-init : goal.loop-index-init
+loop-index-init c =
+    let b = begun_root (leads_from c.args.self.now c.args.link) c.args.from c.loop-root.root c.loop-root.order c.begin.new.self c.in_ok-begin.ensures c.loop-root.invariant.1 c.loop-root.invariant.0 in
+    (b.0, b.1, b.2 ∙ c.loop-root.invariant.2)
+
+pub loop-index-smaller : goal.loop-index-smaller
+loop-index-smaller c = less_work (leads_from c.args.self.now c.args.link) c.in-Some.index c.in-Some.at c.next-next.result c.loop-index.order _ c.go_on.new.self c.next-next.ensures c.in_ok-go_on.ensures refl c.in-Some.ensures.items
+
+pub loop-index-preserved : goal.loop-index-preserved
+loop-index-preserved c =
+    let f = taken_off (leads_from c.args.self.now c.args.link) c.args.from c.loop-root.root _ _ _ c.loop-index.order.stack.items c.pop.new.self.items (c.in-Some.index, c.in-Some.at)
+    c.in-Some.ensures.items c.loop-index.invariant.0 in
+    let m = moves c.in-Some.index c.next-next.result _ c.go_on.new.self c.in_ok-go_on.ensures in (
+      goes_on (leads_from c.args.self.now c.args.link) c.args.from c.loop-root.root c.in-Some.index c.in-Some.at c.next-next.result _ c.go_on.new.self c.next-next.ensures c.in_ok-go_on.ensures f,
+      λ unseen. c.loop-index.invariant.1 (m.seen c.loop-root.root unseen),
+      m.len ∙ c.loop-index.invariant.2,
+    )
 
 pub loop-root-preserved : goal.loop-root-preserved
 loop-root-preserved c =
-    one_further _ _ _ _ _ _ _ c.in_ok-close-2.ensures.order c.in_ok-close-2.ensures.kept c.in_ok-close-2.ensures.done c.in_ok-close-2.ensures.len c.loop.invariant
+    let empty = none_of c.pop.new.self.items (sym c.pop.new.self.ok.0 ∙ c.in_default.ensures.cases.1) in
+    let all = c.in_default.ensures.items ∙ ap (λ xs. xs ++ []) empty in (
+      root_done (leads_from c.args.self.now c.args.link) c.args.from c.loop-root.root _ _ _ c.loop-index.order.stack.items c.pop.new.self.items all empty
+          c.loop-index.invariant.1 c.loop-index.invariant.0,
+      empty,
+      c.loop-index.invariant.2,
+    )
+
+pub returns-clause-behind : goal.returns-clause-behind
+returns-clause-behind c = all_behind (leads_from c.args.self.now c.args.link) c.args.from c.loop-root.root _ _ _ _ c.loop-root.invariant.0

@@ -1,5 +1,5 @@
 use Rattle.wgsl_module.specs.Noted.{Keeps, state}
-use Rattle.wgsl_module.proofs.checker.Checker.declare_all.Given as goal
+use Rattle.wgsl_module.proofs.checker.Checker.give_all.Given as goal
 
 -- what is read stays as it is
 abbrev pub invariant-loop-name : goal.invariant-loop-name

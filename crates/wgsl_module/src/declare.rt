@@ -1,0 +1,201 @@
+// Declarations, each behind those that it needs.
+ghost use Rattle.std.specs.Prelude.{◌≡◌, IfOk, map, option_map, slice_get};
+ghost use Rattle.wgsl_module.specs.Declarations.{written};
+ghost use Rattle.wgsl_module.specs.Noted.{Comes, Keeps, reading, source, state};
+ghost use Rattle.wgsl_module.specs.Runs.{AreDeclarations, Declares, Ends, IsDeclaration};
+
+use crate::attribute::{Attributes, Owner};
+use crate::checker::{Checker, Interface};
+use crate::declaration::{Declaration, DeclarationKind};
+use crate::typing::extension::is_required;
+use crate::typing::fault::Rule;
+use crate::typing::known::{Known, Typed};
+use std::alloc::AllocError;
+use wgsl_forms::declare::Declaration as Form;
+use wgsl_reader::mark::Mark;
+use wgsl_reader::token::Token;
+use wgsl_source::fault::{Cause, ExtensionKind};
+
+impl<'t> Checker<'t> {
+    /// Reads the declarations with these indices.
+    pub fn declare_in(&mut self, tokens: &[Token], order: &[usize]) -> Result<(), AllocError>
+        ensures declarations { IfOk result (λ u. AreDeclarations tokens.now (map written self.old.declarations.items) order.now (reading (state self.old)) (reading (state self.new))) }
+        ensures source { IfOk result (λ u. source (state self.new) ≡ source (state self.old)) }
+    {
+        for index in order {
+            self.declare(tokens, *index)?;
+        }
+        Ok(())
+    }
+
+    /// Reads a declaration behind those that it needs.
+    fn declare(&mut self, tokens: &[Token], index: usize) -> Result<(), AllocError>
+        ensures declaration { IfOk result (λ u. IsDeclaration tokens.now (option_map written (slice_get self.old.declarations.items index)) (reading (state self.old)) (reading (state self.new))) }
+        ensures source { IfOk result (λ u. source (state self.new) ≡ source (state self.old)) }
+    {
+        self.clear();
+        let Some(declaration) = self.declaration(index) else {
+            return Ok(());
+        };
+        self.begin_declaration(declaration)?;
+        let known = self.read_declaration(tokens, index, declaration)?;
+        self.expressions.put_known(index, Some(known));
+        Ok(())
+    }
+
+    /// Directives enable extensions, and filter diagnostics together: the attributes of others filter on their own.
+    fn begin_declaration(&mut self, declaration: Declaration<'t>) -> Result<(), AllocError>
+        ensures { IfOk result (λ u. Keeps (state self.old) (state self.new)) }
+    {
+        match declaration.kind {
+            DeclarationKind::Enable | DeclarationKind::Directive => self.tell_extensions(
+                declaration,
+            ),
+            _ => {
+                self.filters.clear();
+                Ok(())
+            }
+        }
+    }
+
+    /// Enables extensions, and says which names are none.
+    fn tell_extensions(&mut self, declaration: Declaration<'t>) -> Result<(), AllocError>
+        ensures { Keeps (state self.old) (state self.new) }
+    {
+        for event in declaration.events {
+            let name = self.word(event.at);
+            let is_known = match (event.mark, declaration.kind) {
+                (Mark::Extension, DeclarationKind::Enable) => {
+                    self.expressions.extensions.enable(name)
+                }
+                (Mark::Extension, _) => is_required(name),
+                _ => true,
+            };
+            if !is_known {
+                let kind = match declaration.kind {
+                    DeclarationKind::Enable => ExtensionKind::Enabled,
+                    _ => ExtensionKind::Required,
+                };
+                self.tell_name(Rule::Extension, event.at, "is no extension")?;
+                self.suggest(event.at, Cause::UnknownExtension(kind))?;
+            }
+        }
+        Ok(())
+    }
+
+    /// Reads a declaration. Returns what its name stands for.
+    fn read_declaration(
+        &mut self,
+        tokens: &[Token],
+        index: usize,
+        declaration: Declaration<'t>,
+    ) -> Result<Known, AllocError>
+        ensures declaration { IfOk result (λ k. Declares tokens.now declaration.entry.kind declaration.entry.events.now (state self.old) (state self.new)) }
+        ensures source { IfOk result (λ k. source (state self.new) ≡ source (state self.old)) }
+    {
+        let attributes = self.read_events(tokens, declaration)?;
+        self.end_declaration(index, declaration, attributes)
+    }
+
+    /// Reads the events of a declaration. Returns its attributes.
+    fn read_events(
+        &mut self,
+        tokens: &[Token],
+        declaration: Declaration<'t>,
+    ) -> Result<Attributes, AllocError>
+        ensures events { IfOk result (λ a. Comes tokens.now declaration.entry.events.now (state self.old) (state self.new)) }
+        ensures source { IfOk result (λ a. source (state self.new) ≡ source (state self.old)) }
+    {
+        let named = declaration.named.unwrap_or(0);
+        let split = declaration.events.partition_point(|event| event.at < named);
+        let (front, rest) = declaration.events.split_at(split);
+        self.owner = match declaration.kind {
+            DeclarationKind::Variable => Owner::Variable,
+            DeclarationKind::Override => Owner::Override,
+            _ => Owner::Function,
+        };
+        self.steps(tokens, front)?;
+        let attributes = self.take_attributes();
+        self.owner = match declaration.kind {
+            DeclarationKind::Struct => Owner::Member,
+            _ if attributes.have_stage => Owner::InOut,
+            _ => Owner::Plain,
+        };
+        self.interface = Some(Interface {
+            fields: Vec::new(self.expressions.alloc),
+            result: None,
+            attributes,
+        });
+        self.steps(tokens, rest)?;
+        Ok(attributes)
+    }
+
+    /// Takes what the events of a declaration have left. Returns what its name stands for.
+    fn end_declaration(
+        &mut self,
+        index: usize,
+        declaration: Declaration<'t>,
+        attributes: Attributes,
+    ) -> Result<Known, AllocError>
+        ensures taken { IfOk result (λ k. Ends declaration.entry.kind (state self.old) (state self.new)) }
+        ensures source { IfOk result (λ k. source (state self.new) ≡ source (state self.old)) }
+    {
+        let named = declaration.named.unwrap_or(0);
+        match declaration.kind {
+            DeclarationKind::Const => {
+                let (_, value) = self.read_value(Form::Const)?;
+                Ok(known_value(value, attributes))
+            }
+            DeclarationKind::Override => {
+                let value = self.read_override(named, attributes)?;
+                Ok(known_value(value, attributes))
+            }
+            DeclarationKind::Variable => {
+                let value = self.read_global(named, attributes)?;
+                Ok(known_value(value, attributes))
+            }
+            DeclarationKind::Alias => match self.expressions.take_type()? {
+                (_, Some(ty)) => Ok(Known::Type(ty)),
+                (_, None) => Ok(Known::Faulty),
+            },
+            DeclarationKind::Assertion => {
+                self.assert()?;
+                Ok(Known::Faulty)
+            }
+            DeclarationKind::Struct | DeclarationKind::Function => {
+                self.read_interface(index, declaration.kind, named)
+            }
+            DeclarationKind::Enable | DeclarationKind::Directive | DeclarationKind::Misread => {
+                Ok(Known::Faulty)
+            }
+        }
+    }
+
+    /// What a struct or a function with the fields that are read stands for.
+    fn read_interface(
+        &mut self,
+        index: usize,
+        kind: DeclarationKind,
+        named: usize,
+    ) -> Result<Known, AllocError>
+        ensures { IfOk result (λ k. Keeps (state self.old) (state self.new)) }
+    {
+        let Some(interface) = self.interface.take() else {
+            return Ok(Known::Faulty);
+        };
+        let known = match kind {
+            DeclarationKind::Struct => self.structure(named, &interface.fields)?,
+            _ => self.signature(named, &interface)?,
+        };
+        self.keep(index, interface);
+        Ok(known)
+    }
+}
+
+/// A value, if neither it nor an attribute has a fault.
+fn known_value(value: Option<Typed>, attributes: Attributes) -> Known {
+    match value {
+        Some(typed) if attributes.are_fine => Known::Value(typed),
+        _ => Known::Faulty,
+    }
+}
