@@ -4,7 +4,8 @@ pub use crate::proved::wgsl_check::{status, RunError};
 use crate::proved::{wgsl as commands, wgsl_check};
 use crate::shim::host::HostRuntime;
 use crate::shim::std::{alloc::Global, process::ExitCode};
-use alloc::{string::String, vec::Vec};
+use alloc::vec::Vec;
+use rust_std::ffi::{OsStr, OsString};
 use rust_std::io::{Read, Write};
 
 /// `wgsl`: layouts of files, and requests on standard input, by WGSL's own rules. It reads its arguments itself.
@@ -14,14 +15,13 @@ pub fn wgsl() -> ExitCode {
 
 /// `wgsl_check`: requests on standard input, answered by the rules of wgsl-types.
 pub fn check() -> ExitCode {
-    let words: Option<Vec<String>> =
-        rust_std::env::args_os().skip(1).map(|word| word.into_string().ok()).collect();
-    let words: Option<Vec<&str>> =
-        words.as_ref().map(|words| words.iter().map(String::as_str).collect());
-    match words.as_deref() {
-        Some([] | ["--strict"]) => wgsl_check::main(HostRuntime),
-        Some(["--version"]) => tell(concat!("wgsl_check ", env!("CARGO_PKG_VERSION"), "\n")),
-        Some(["--help" | "-h"]) => tell(include_str!("../bindings/help.txt")),
+    let words: Vec<OsString> = rust_std::env::args_os().skip(1).collect();
+    let words: Vec<Option<&str>> =
+        words.iter().map(OsString::as_os_str).map(OsStr::to_str).collect();
+    match words.as_slice() {
+        [] | [Some("--strict")] => wgsl_check::main(HostRuntime),
+        [Some("--version")] => tell(concat!("wgsl_check ", env!("CARGO_PKG_VERSION"), "\n")),
+        [Some("--help" | "-h")] => tell(include_str!("../bindings/help.txt")),
         _ => {
             rust_std::eprintln!(
                 "wgsl_check: it takes no argument but --strict, and reads commands from standard input: see wgsl_check --help"

@@ -34,17 +34,12 @@ impl<const N: usize> Simd<u8, N> {
         Simd([byte; N])
     }
 
+    /// Compares 8 lanes at a time.
     #[inline(always)]
     pub fn simd_eq(self, other: Self) -> Mask {
-        self.compared(other, |a, b| !differ(a, b))
-    }
-
-    /// Compares 8 lanes at a time. The highest bit of each byte that the function returns is the result of a lane.
-    #[inline(always)]
-    fn compared(self, other: Self, answers: impl Fn(u64, u64) -> u64) -> Mask {
         let mut bits = 0;
         for i in 0..N / 8 {
-            let high = answers(eight(&self.0, i), eight(&other.0, i)) & HIGH;
+            let high = !differ(eight(&self.0, i), eight(&other.0, i)) & HIGH;
             // Moves bit 8 j of a byte to bit 56 + j, and to no bit that another byte reaches.
             bits |= ((high >> 7).wrapping_mul(0x0102_0408_1020_4080) >> 56) << (8 * i);
         }

@@ -1,6 +1,7 @@
 -- A call by its name: its answer, that this is the least candidate's, and when it is never out of memory.
 use Rattle.std.proofs.Common.{◌≡◌, List, Option, Some, None, Result, Ok, Err, subst, option_map}
 use Rattle.wgsl_calls.proofs.Common.{WgslType, Parameter, Signature, Refusal, signature, Row, ReturnType, IsReturnType, view, refusal, AnswersAs, IsAnswered, «Type», Error, Fail, Chooses, MayBeOutOfMemory, IsMet, Answered}
+use Rattle.wgsl_calls.specs.Returned.{Returns}
 use Rattle.wgsl_rules.specs.calls.Table.{call_table, rows_named}
 use Rattle.wgsl_rules.specs.calls.Answers.{IsAnswerOf, IsCallAnswer, IsLeastCallAnswer, IsLeafAnswer, IsLeafCall}
 use Rattle.wgsl_rules.proofs.calls.OneAnswer.{call_answer_once}
@@ -21,6 +22,20 @@ by_chosen c rows o p r e h k = by_name c rows p r e (by_other (IsReturnType o c)
 pub by_none : (c : Signature) (rows : List Row) (p : Option (List Parameter)) (r : Result (Option «Type») (Fail Error)) → rows ≡ rows_named c.name call_table →
     Chooses rows c None → IsMet (Err (signature c)) r → Answered (IsCallAnswer c) p r
 by_none c rows p r e h k = by_name c rows p r e (by_answer (IsAnswerOf rows c) p (Err (signature c)) r h k)
+
+-- what isn't built is an answer too
+pub unbuilt_answered : (c : Signature) (rows : List Row) (o : ReturnType) (a b : Result (Option WgslType) Refusal) → rows ≡ rows_named c.name call_table → Chooses rows c (Some o) → IsReturnType o c a → b ≡ a → IsCallAnswer c b
+unfolding IsCallAnswer
+unbuilt_answered c rows o a b e h k is = rw is (subst (λ rows. IsAnswerOf rows c a) e (h a k))
+
+pub refused : (c : Signature) (rows : List Row) → rows ≡ rows_named c.name call_table → Chooses rows c None → IsCallAnswer c (Err (signature c))
+unfolding IsCallAnswer
+refused c rows e h = subst (λ rows. IsAnswerOf rows c (Err (signature c))) e h
+
+-- a call that refuses its template, or is out of memory
+pub not_returned : (c : Signature) (p : Option (List Parameter)) (f : Fail Error) → Answered (IsCallAnswer c) p (Err f) → Returns (IsCallAnswer c) c (Err f)
+not_returned c p (fails.Error e) k = k
+not_returned c p (fails.Memory m) k = tt
 
 pub row_answered : (c : Signature) (r : Result (Option «Type») (Fail Error)) → Answered (IsCallAnswer c) c.template r → AnswersAs (option_map view) (IsCallAnswer c) r
 row_answered c (Ok t) k = k

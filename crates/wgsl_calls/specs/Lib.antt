@@ -1,4 +1,5 @@
 pub mod Calls
 pub mod Constructors
+pub mod Returned
 pub mod Templates
 pub mod internal

@@ -4,6 +4,7 @@ ghost use Rattle.wgsl_rules.specs.conversion.Concrete.{concretized};
 ghost use Rattle.wgsl_rules.specs.errors.Refusals.{signature};
 ghost use Rattle.wgsl_rules.specs.calls.ResultTypes.{exchange_struct};
 ghost use Rattle.wgsl_rules.specs.calls.Rows.{IsResultFor, IsFromTemplate, IsReturnType, given, return_type_of as return_type_of_row};
+ghost use Rattle.wgsl_rules.specs.types.Signatures.{Signature};
 ghost use Rattle.wgsl_rules.specs.templates.Templates.{IsBitcastTemplate};
 ghost use Rattle.wgsl_rules.specs.calls.Table.{call_table, rows_named};
 ghost use Rattle.wgsl_rules.specs.calls.Answers.{IsCallAnswer, IsLeastCallAnswer, IsLeafCall};
@@ -14,6 +15,7 @@ ghost use Rattle.wgsl_core.specs.ResultStruct.{result_type};
 ghost use Rattle.wgsl_core.specs.Answer.{AnswersBy, AnswersAs, IsAnswered};
 ghost use Rattle.wgsl_calls.specs.internal.Rows.{rows_view};
 ghost use Rattle.wgsl_calls.specs.Calls.{signature_of};
+ghost use Rattle.wgsl_calls.specs.Returned.{Returns, returned_view};
 ghost use Rattle.wgsl_calls.specs.internal.Answers.{template_of, Chooses, IsBuilt, IsMet, Answered};
 ghost use Rattle.wgsl_rules.specs.conversion.Conversion.{IsValueType};
 ghost use Rattle.wgsl_rules.specs.operators.Candidates.{Name};
@@ -44,6 +46,15 @@ use wgsl_core::ty::result_struct::shaped_float;
 use wgsl_core::ty::result_type::{exchange_result, hit_positions, ray_intersection, result_struct};
 use wgsl_syntax::call::{ReturnType, Row};
 use wgsl_syntax::result_struct::{ResultFunction, ResultStruct};
+
+/// What a call of a built-in function returns. A struct of `frexp` or `modf`, and the refusal of the call, aren't built.
+#[derive(Drop)]
+pub enum Returned {
+    /// A type, or no value.
+    Built(Option<Type>),
+    Split(ResultStruct),
+    Refused,
+}
 
 /// The type of a call of a built-in function (WGSL, "Built-in Functions"), by its name, its template if it has
 /// one, and the types of its arguments; None if it returns no value. `Signature` with all three refuses a call that
@@ -85,7 +96,32 @@ fn answer(alloc: Global, call: &NamedCall<'_>) -> Result<Option<Type>, Fail<Erro
     }
 }
 
+/// What a call returns, as `type_builtin_fn` does.
+pub fn returned_by(alloc: Global, call: &NamedCall<'_>) -> Result<Returned, Fail<Error>>
+    ensures { Returns (IsCallAnswer (signature_of call.now)) (signature_of call.now) result }
+{
+    match chosen(call) {
+        Some(ReturnType::ResultOf(function)) => {
+            Ok(unbuilt(split_result(function, argument(call.args, 0))))
+        }
+        Some(return_type) => Ok(Returned::Built(by_return_type(alloc, return_type, call)?)),
+        None => Ok(Returned::Refused),
+    }
+}
+
+/// The struct that `frexp` or `modf` returns, or the refusal of the call if there is none.
+#[inline(always)]
+fn unbuilt(found: Option<ResultStruct>) -> Returned
+    ensures { (c : Signature) → returned_view c result ≡ given c (option_map result_type found) }
+{
+    match found {
+        Some(of) => Returned::Split(of),
+        None => Returned::Refused,
+    }
+}
+
 /// What the first row of the call's name that takes the call returns.
+#[inline(always)]
 fn chosen(call: &NamedCall<'_>) -> Option<ReturnType>
     ensures { Chooses (rows_named (signature_of call.now).name call_table)
         (signature_of call.now) result }
@@ -97,6 +133,7 @@ fn chosen(call: &NamedCall<'_>) -> Option<ReturnType>
 }
 
 /// What the first of the rows that takes the call returns.
+#[inline(always)]
 fn chosen_of(rows: &Rows, call: &NamedCall<'_>) -> Option<ReturnType>
     ensures { Chooses (rows_view rows.now) (signature_of call.now) result }
 {

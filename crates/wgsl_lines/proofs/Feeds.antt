@@ -24,29 +24,3 @@ passed_more bytes at more room is none =
     let front : take more (chunk at 16 bytes) ≡ take more (drop at bytes) = take-take more 16 (drop at bytes) few in
     let next : All (λ byte. byte ≢ 10) (take more (drop at bytes)) = rw (sym front) (rw is (none_before (chunk at 16 bytes))) in
     (few, rw (take-add at more bytes) (All-append (λ byte. byte ≢ 10) (take at bytes) (take more (drop at bytes)) none next))
-
--- all that is left from an index on
-all_left : (bytes : List ℕ) (at : ℕ) → take (length bytes - at) (drop at bytes) ≡ drop at bytes
-all_left bytes at = take_all (length bytes - at) (drop at bytes) (omega (arith, length-drop at bytes))
-
--- no line feed is passed, and none is left
-pub no_feed_left : (bytes : List ℕ) (at : ℕ) → All (λ byte. byte ≢ 10) (take at bytes)
-    → All (λ byte. byte ≢ 10) (take (length bytes - at) (drop at bytes)) → All (λ byte. byte ≢ 10) bytes
-no_feed_left bytes at none left = rw (sym (take-append-drop at bytes)) (All-append (λ byte. byte ≢ 10) (take at bytes) (drop at bytes) none (rw (sym (all_left bytes at)) left))
-
--- the bytes that were passed, and then those in front of the first line feed of the rest
-pub record IsCut (bytes : List ℕ) (end : ℕ) : Type 0 where
-  pub none : All (λ byte. byte ≢ 10) (take end bytes)
-  pub bytes_are : bytes ≡ take end bytes ++ 10 ∷ take (length bytes - (end + 1)) (drop (end + 1) bytes)
-
-pub cut_further : (bytes rest : List ℕ) (at more : ℕ) → rest ≡ take (length bytes - at) (drop at bytes) → All (λ byte. byte ≢ 10) (take at bytes)
-    → All (λ byte. byte ≢ 10) (take more rest) → rest ≡ take more rest ++ 10 ∷ drop (more + 1) rest → IsCut bytes (at + more)
-cut_further bytes rest at more is none next left =
-    let whole : rest ≡ drop at bytes = is ∙ all_left bytes at in
-    let before : take at bytes ++ take more rest ≡ take (at + more) bytes = ap (λ r. take at bytes ++ take more r) whole ∙ sym (take-add at more bytes) in
-    let after : drop (more + 1) rest ≡ take (length bytes - (at + more + 1)) (drop (at + more + 1) bytes)
-    = ap (drop (more + 1)) whole ∙ (drop-drop (more + 1) at bytes ∙ (ap (λ n. drop n bytes) (omega arith) ∙ sym (all_left bytes (at + more + 1)))) in
-    record {
-      none = rw (sym before) (All-append (λ byte. byte ≢ 10) (take at bytes) (take more rest) none next);
-      bytes_are = sym (take-append-drop at bytes) ∙ (ap (λ r. take at bytes ++ r) (sym whole ∙ left) ∙ (sym (append_assoc (take at bytes) (take more rest) (10 ∷ drop (more + 1) rest)) ∙ (ap (λ f. f ++ 10 ∷ drop (more + 1) rest) before ∙ ap (λ r. take (at + more) bytes ++ 10 ∷ r) after)));
-    }

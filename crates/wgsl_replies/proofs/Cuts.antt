@@ -1,6 +1,6 @@
 -- The first word of a text, what is left behind it, and where the text may be cut: after the separators in front, and after that word.
 use Rattle.wgsl_replies.proofs.Common.{◌≡◌, ℕ, ◌+◌, ◌<◌, Bool, true, false, not, List, [], ◌∷◌, length, take, drop, refl, ap, sym, subst, ◌∙◌, arith, filter}
-use Rattle.wgsl_replies.proofs.Common.{prefix_len, take_while, length-prefix_len, common_steps, nil_from_length, pieces, has_bytes, is_separator, words_of, zero}
+use Rattle.wgsl_replies.proofs.Common.{prefix_len, common_steps, nil_from_length, pieces, has_bytes, is_separator, words_of, zero}
 use Rattle.wgsl_replies.proofs.Common.{suc, ◌-◌, ◌≤◌, Some, None, IsUtf8, get_or, Bor, IsCharBoundary, IsAscii, not-false, drop-drop, length-drop, IsFirstWord}
 use Rattle.wgsl_requests.specs.Replies.{has_line_feed, is_line_feed}
 use Rattle.std.proofs.lemmas.List.Sums.{prefix_len-le-length, prefix_len_passes, prefix_len_stops}
@@ -88,23 +88,22 @@ begins_with_word cuts (b ∷ bs) = step (cuts b) refl (begins_with_word cuts bs)
     step false e h = rw (after_no_cut cuts b bs e) (λ _. words-word cuts b bs e)
 
 -- the same, where `gap` and `len` count the separators in front and the bytes of the word
-pub words_of-blank : (bytes : List ℕ) (gap : ℕ) → gap ≡ length (take_while is_separator bytes)
+pub words_of-blank : (bytes : List ℕ) (gap : ℕ) → gap ≡ prefix_len is_separator bytes
     → length (drop gap bytes) ≡ 0 → words_of bytes ≡ []
 words_of-blank bytes gap at h =
-    let e : gap ≡ gap_len is_separator bytes = at ∙ length-prefix_len is_separator bytes in
+    let e : gap ≡ gap_len is_separator bytes = at in
     let none : drop (gap_len is_separator bytes) bytes ≡ [] = rw (← e) (nil_from_length _ h) in
     sym (words-gap is_separator bytes) ∙ ap (words is_separator) none
 
-pub words_of-first : (bytes rest : List ℕ) (gap len : ℕ) → gap ≡ length (take_while is_separator bytes)
-    → rest ≡ drop gap bytes → len ≡ length (take_while (λ byte. not (is_separator byte)) rest)
+pub words_of-first : (bytes rest : List ℕ) (gap len : ℕ) → gap ≡ prefix_len is_separator bytes
+    → rest ≡ drop gap bytes → len ≡ prefix_len (λ byte. not (is_separator byte)) rest
     → 0 < length rest → words_of bytes ≡ take len rest ∷ words_of (drop len rest)
 words_of-first bytes rest gap len at is ends h =
-    let e : gap ≡ gap_len is_separator bytes = at ∙ length-prefix_len is_separator bytes in
+    let e : gap ≡ gap_len is_separator bytes = at in
     let same : drop (gap_len is_separator bytes) bytes ≡ rest = rw (← e) (sym is) in
     let begins : BeginsWithWord is_separator rest =
     subst (BeginsWithWord is_separator) same (begins_with_word is_separator bytes) in
-    let whole : len ≡ word_len is_separator rest =
-    ends ∙ length-prefix_len (λ byte. not (is_separator byte)) rest in
+    let whole : len ≡ word_len is_separator rest = ends in
     rw whole (sym (words-gap is_separator bytes) ∙ (ap (words is_separator) same ∙ begins h))
 
 -- a separator is no line feed
@@ -131,10 +130,10 @@ blank-gap = of_blank (λ bytes. gap_len is_separator bytes ≡ length bytes) ref
 separator_ascii : (b : ℕ) → is_separator b ≡ true → b < 128
 separator_ascii b e = grind (arith, common_steps, e)
 
-pub gap_boundary : (text : List ℕ) (gap : ℕ) → IsUtf8 text → gap ≡ length (take_while is_separator text) → IsCharBoundary text gap
+pub gap_boundary : (text : List ℕ) (gap : ℕ) → IsUtf8 text → gap ≡ prefix_len is_separator text → IsCharBoundary text gap
 gap_boundary text zero u e = IsCharBoundary-start text u
 gap_boundary text (suc k) u e =
-    let whole : suc k ≡ prefix_len is_separator text = e ∙ length-prefix_len is_separator text in
+    let whole : suc k ≡ prefix_len is_separator text = e in
     let in_gap : k < prefix_len is_separator text = omega (arith, whole) in
     let in_text : k < length text = omega (arith, in_gap, prefix_len-le-length is_separator text) in
     let one_more : k + 1 ≡ suc k = omega arith in
@@ -145,17 +144,17 @@ prefix_boundary rest =
     let within : word_len is_separator rest ≤ length rest = prefix_len-le-length (λ byte. not (is_separator byte)) rest in
     (within, λ lt. (IsCharBoundary-before_ascii rest _ lt (separator_ascii _ (not-false _ (prefix_len_stops (λ byte. not (is_separator byte)) rest 0 lt)))).1 lt)
 
-pub word_boundary : (rest : List ℕ) (len : ℕ) → len ≡ length (take_while (λ byte. not (is_separator byte)) rest) → IsCharBoundary rest len
-word_boundary rest len e = subst (IsCharBoundary rest) (sym (e ∙ length-prefix_len (λ byte. not (is_separator byte)) rest)) (prefix_boundary rest)
+pub word_boundary : (rest : List ℕ) (len : ℕ) → len ≡ prefix_len (λ byte. not (is_separator byte)) rest → IsCharBoundary rest len
+word_boundary rest len e = subst (IsCharBoundary rest) (sym e) (prefix_boundary rest)
 
 -- a word that begins where the separators in front end has bytes
-pub word_has_bytes : (text rest : List ℕ) (gap len : ℕ) → gap ≡ length (take_while is_separator text) → rest ≡ drop gap text
-    → len ≡ length (take_while (λ byte. not (is_separator byte)) rest) → 0 < length rest → 0 < len
+pub word_has_bytes : (text rest : List ℕ) (gap len : ℕ) → gap ≡ prefix_len is_separator text → rest ≡ drop gap text
+    → len ≡ prefix_len (λ byte. not (is_separator byte)) rest → 0 < length rest → 0 < len
 word_has_bytes text rest gap zero e is f more =
     let q : ℕ → Bool = λ byte. not (is_separator byte) in
-    let whole : 0 ≡ prefix_len q rest = f ∙ length-prefix_len q rest in
+    let whole : 0 ≡ prefix_len q rest = f in
     let front : is_separator (get_or rest 0 0) ≡ true = not-false _ (subst (λ n. q (get_or rest n 0) ≡ false) (sym whole) (prefix_len_stops q rest 0 (subst (λ n. n < length rest) whole more))) in
-    let at : gap ≡ prefix_len is_separator text = e ∙ length-prefix_len is_separator text in
+    let at : gap ≡ prefix_len is_separator text = e in
     let inside : prefix_len is_separator text < length text = grind (arith, common_steps, at, is, more) in
     let here : get_or rest 0 0 ≡ get_or text gap 0 = rw is (grind (arith, common_steps)) in
     let stops : is_separator (get_or text gap 0) ≡ false = rw at (prefix_len_stops is_separator text 0 inside) in
@@ -164,17 +163,17 @@ word_has_bytes text rest gap (suc n) e is f more = omega arith
 
 -- the separators in front of a text, what is left after them, and the bytes of the word that it begins with
 pub record IsParted (text rest : List ℕ) (gap len : ℕ) : Type 0 where
-  pub gap_is : gap ≡ length (take_while is_separator text)
+  pub gap_is : gap ≡ prefix_len is_separator text
   pub rest_is : rest ≡ drop gap text
-  pub len_is : len ≡ length (take_while (λ byte. not (is_separator byte)) rest)
+  pub len_is : len ≡ prefix_len (λ byte. not (is_separator byte)) rest
   pub some : 0 < length rest
 
 -- that word is the first
 pub first_word_is : (text rest : List ℕ) (word : Bor (List ℕ)) (gap len : ℕ) → IsParted text rest gap len → word.now ≡ take len rest → IsFirstWord text (Some (word, gap + len))
 first_word_is text rest word gap len at is =
     let q : ℕ → Bool = λ byte. not (is_separator byte) in
-    let gap_within : gap ≤ length text = omega (arith, at.gap_is ∙ length-prefix_len is_separator text, prefix_len-le-length is_separator text) in
-    let len_within : len ≤ length rest = omega (arith, at.len_is ∙ length-prefix_len q rest, prefix_len-le-length q rest) in
+    let gap_within : gap ≤ length text = omega (arith, at.gap_is, prefix_len-le-length is_separator text) in
+    let len_within : len ≤ length rest = omega (arith, at.len_is, prefix_len-le-length q rest) in
     let left : length rest ≡ length text - gap = ap length at.rest_is ∙ length-drop gap text in
     let some : 0 < len = word_has_bytes text rest gap len at.gap_is at.rest_is at.len_is at.some in
     let first : words_of text ≡ take len rest ∷ words_of (drop len rest) = words_of-first text rest gap len at.gap_is at.rest_is at.len_is at.some in

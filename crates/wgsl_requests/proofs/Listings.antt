@@ -1,6 +1,6 @@
 -- What is written at the end of a text: another text, numbers digit by digit, and lists, over values and over what these are seen as.
 use Rattle.wgsl_requests.proofs.Shared.{◌≡◌, ◌∙◌, ◌++◌, ℕ, List, [], ◌∷◌, Option, Some, codes, decimal, map, refl, sym, ap, append_assoc, WgslType, listed}
-use Rattle.wgsl_requests.proofs.Shared.{parameter_text, template_text, wgsl_spelling, types_of, value_of, parameter_view, view, «Type», unknown_name}
+use Rattle.wgsl_requests.proofs.Shared.{parameter_text, template_text, spelling, wgsl_spelling, types_of, value_of, parameter_view, view, «Type», unknown_name}
 use Rattle.wgsl_requests.proofs.Shared.{given_type, Operand, WgslCall, loaded, written_view, ◌+◌, ◌<◌, ◌%◌, ◌^◌, Result, Ok, Err, arith, is_ok, OnOk}
 use Rattle.wgsl_requests.proofs.Shared.{if◌then◌else◌}
 use Rattle.std.proofs.lemmas.List.Folds.{flat_map-map}
@@ -70,6 +70,21 @@ refusal_written old first named with taken shown all name template xs a b c d e 
     let so_far : taken ≡ (((old ++ codes "no overload of `") ++ name) ++ template) ++ codes "` takes (" = d ∙ ap (λ y. y ++ codes "` takes (") (c ∙ ap (λ y. y ++ template) (b ∙ ap (λ y. y ++ name) a)) in
     f ∙ ap (λ y. y ++ codes ")") (e ∙ ap (λ y. taken ++ y) (sym (operand_types xs)) ∙ ap (λ y. y ++ types) so_far)
     ∙ refusal_parts old (codes "no overload of `") name template (codes "` takes (") types (codes ")")
+
+-- that a call is refused, with its name, its template and the types of its arguments
+
+call_parts : (old head name template bracket types close tick : List ℕ) → (((((old ++ head) ++ name) ++ template) ++ bracket) ++ types) ++ (close ++ tick)
+    ≡ old ++ (head ++ (name ++ template ++ bracket ++ types ++ close) ++ tick)
+call_parts old head name template bracket types close tick = simp append_assoc
+
+pub call_written : (old first named with opened shown name template : List ℕ) (ts : List «Type») → first ≡ old ++ codes "invalid function call signature: `" → named ≡ first ++ name
+    → with ≡ named ++ template → opened ≡ with ++ codes "(" → shown ≡ opened ++ listed (λ t. spelling (view t)) ts
+    → shown ++ codes ")`" ≡ old ++ (codes "invalid function call signature: `" ++ (name ++ template ++ codes "(" ++ listed spelling (map view ts) ++ codes ")") ++ codes "`")
+call_written old first named with opened shown name template ts a b c d e =
+    let types = listed spelling (map view ts) in
+    let so_far : opened ≡ (((old ++ codes "invalid function call signature: `") ++ name) ++ template) ++ codes "(" = d ∙ ap (λ y. y ++ codes "(") (c ∙ ap (λ y. y ++ template) (b ∙ ap (λ y. y ++ name) a)) in
+    ap (λ y. y ++ codes ")`") (e ∙ ap (λ y. opened ++ y) (sym (listed_seen spelling view ts)) ∙ ap (λ y. y ++ types) so_far)
+    ∙ call_parts old (codes "invalid function call signature: `") name template (codes "(") types (codes ")") (codes "`")
 
 -- what `push_str` writes
 pub pushed : {T E : Type 0} → (r : Result T E) (new old text : List ℕ) → new ≡ (if is_ok r then old ++ text else old) → OnOk r (new ≡ old ++ text)

@@ -5,7 +5,6 @@ use Rattle.wgsl_requests.proofs.Shared.{template_type, WithTemplate, written_vie
 use Rattle.wgsl_requests.proofs.Shared.{types_of, callee_view, given_type, note_listed, note_text, types_given, Mismatch, AreNotesWith, filter, flat_map, ⊤}
 use Rattle.wgsl_requests.proofs.Shared.{bytes_eq, false_from_ne_true, append-nil, texts_listed, ◌++◌, WgslCallee}
 use Rattle.wgsl_standard.specs.Answered.{Answers, IsRefused}
-use Rattle.wgsl_core.specs.declared.error.Fail.TheVariants.{Error}
 use Rattle.wgsl_standard.specs.declared.answer.NoOverload.{NoOverload}
 use Rattle.wgsl_standard.specs.Explained.{IsExplained, IsExplainedWith, note_view}
 use Rattle.wgsl_standard.specs.declared.callee.Callee.{Callee}

@@ -32,7 +32,7 @@ pub use Rattle.wgsl_rules.specs.layout.Layout.{AreOffsetsBy, HasAlignmentBy, Has
 pub use Rattle.wgsl_rules.specs.standard.Answers.{is_template, IsCallAnswer, IsNamedAnswer, IsResolution, template_operand}
 pub use Rattle.wgsl_rules.specs.standard.Choice.{IsChosen, parameters_for, result_for, types_of, value_of, Operand as WgslOperand}
 pub use Rattle.wgsl_rules.specs.types.Signatures.{listed, Parameter, parameter_text, template_text}
-pub use Rattle.wgsl_rules.specs.types.Spelling.{spelling, wgsl_spelling}
+pub use Rattle.wgsl_rules.specs.types.Spelling.{spelling, spelling_by, wgsl_spelling}
 pub use Rattle.wgsl_rules.specs.types.Types.{Members, WgslType}
 pub use Rattle.wgsl_standard.specs.Callees.{a_binary, a_unary, callee_view, overloads_listed, overloads_of, unknown_name, WgslCallee}
 pub use Rattle.wgsl_standard.specs.Operands.{given_type, operand_view, operands_view}

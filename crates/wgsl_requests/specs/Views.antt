@@ -1,6 +1,6 @@
 -- How the rules see requests and answers.
 use Rattle.std.specs.Prelude.{◌++◌, ℕ, List, [], ◌∷◌, Option, Some, None, Result, Ok, Err, map, option_map}
-use Rattle.wgsl_requests.specs.Prelude.{Refusal, binary as refused_operands, Operand, WgslType, refusal, parameter_view, member_view, struct_view, view, Error, Fail}
+use Rattle.wgsl_requests.specs.Prelude.{Refusal, Signature, binary as refused_operands, Operand, WgslType, refusal, parameter_view, member_view, struct_view, view, Error, Fail}
 use Rattle.wgsl_requests.specs.Prelude.{answer_view as form_answer, form_type_view, taker_view, callee_view, given_type, result_view}
 use Rattle.wgsl_requests.specs.Prelude.{resolved_view as resolved_call_view, line_of, note_text}
 use Rattle.wgsl_core.specs.Layout.{layouts_of, offsets_of}
@@ -21,6 +21,8 @@ use Rattle.wgsl_requests.specs.declared.answers.Operands.{Operands}
 use Rattle.wgsl_requests.specs.declared.answers.Answer.{Answer}
 use Rattle.wgsl_requests.specs.declared.answers.Answer.TheVariants as answers
 use Rattle.wgsl_calls.specs.Calls.{signature_of}
+use Rattle.wgsl_calls.specs.Returned.{returned_view}
+use Rattle.wgsl_calls.specs.declared.call.Returned.{Returned}
 use Rattle.wgsl_standard.specs.declared.operand.Operand.{Operand as CodeOperand}
 use Rattle.wgsl_requests.specs.Standard.{WgslCall}
 use Rattle.wgsl_requests.specs.Requests.{WgslForm, member_of, index_of, load_of, declaration_of, override_of, assignment_of, increment_of, discard_of, construct_of, switch_of, address_of, indirection_of, array_of, typed_array_of, variable_of, initialized_of, WgslRequest, rank, unary, binary, size, offsets, layout, ctor, call, type_of, resolution_of, explanation_of, overloads_of, form_of, fit_of}
@@ -78,6 +80,12 @@ outcome answered shown (Ok x) = answered (Ok (shown x))
 outcome answered shown (Err (fails.Error e)) = answered (Err (refusal e))
 outcome answered shown (Err (fails.Memory e)) = out_of_memory
 
+-- what a call with this signature returns, or the refusal
+abbrev pub value_view : Signature → Result Returned (Fail Error) → WgslAnswer
+value_view c (Ok x) = a_value (returned_view c x)
+value_view c (Err (fails.Error e)) = a_value (Err (refusal e))
+value_view c (Err (fails.Memory e)) = out_of_memory
+
 -- the refusal of operands
 abbrev pub operands_refusal : Operands → Refusal
 operands_refusal e = refused_operands e.operator (view e.lhs.now) (view e.rhs.now)
@@ -99,7 +107,7 @@ abbrev pub answer_view : Answer → WgslAnswer
 answer_view (answers.Number n) = a_number n
 answer_view (answers.Size s a) = a_size s a
 answer_view (answers.Type r) = outcome a_type view r
-answer_view (answers.Value r) = outcome a_value (option_map view) r
+answer_view (answers.Value c r) = value_view (signature_of c) r
 answer_view (answers.Binary r) = a_type (binary_view r)
 answer_view (answers.Offsets o) = some_offsets (option_map (λ v. v.items) o)
 answer_view (answers.Layout s l) =

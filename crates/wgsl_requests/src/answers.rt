@@ -8,8 +8,8 @@ pub enum Answer<'r> {
     Size(Option<u32>, Option<u32>),
     /// The type of an expression, or why it has none. Out of memory is no answer.
     Type(Result<Type, Fail<Error>>),
-    /// What a call returns, which may be no value, or why it is refused. Out of memory is no answer.
-    Value(Result<Option<Type>, Fail<Error>>),
+    /// A call, and what it returns, or why its template is refused. Out of memory is no answer.
+    Value(NamedCall<'r>, Result<Returned, Fail<Error>>),
     /// The type of a binary expression, or the operands that the operator doesn't take.
     Binary(Result<ResolvedType<'r>, Operands<'r>>),
     Offsets(Option<Vec<u32>>),

@@ -7,7 +7,7 @@ ghost use Rattle.wgsl_requests.specs.Views.{answer_view, binary_view, request_vi
 use crate::forms::type_of_form;
 use crate::prelude::*;
 use crate::standard::{notes_on, resolution_of, signatures_named, type_of};
-use wgsl_calls::call::type_builtin_fn;
+use wgsl_calls::call::returned_by;
 use wgsl_calls::constructor::type_ctor;
 use wgsl_core::conversion::conversion_rank;
 use wgsl_core::operators::resolve::resolve_operator;
@@ -44,8 +44,8 @@ pub fn answer<'r>(alloc: Global, request: Request<'r>) -> Made<Answer<'r>>
             Ok(Answer::Type(settled(made)?))
         }
         Request::Call(named) => {
-            let made = type_builtin_fn(alloc, named.name, named.template, named.args);
-            Ok(Answer::Value(settled(made)?))
+            let made = returned_by(alloc, &named);
+            Ok(Answer::Value(named, settled(made)?))
         }
         Request::Type(call) => Ok(Answer::TypeOf(call, type_of(alloc, call)?)),
         Request::Resolution(call) => Ok(Answer::Resolution(call, resolution_of(alloc, call)?)),

@@ -26,6 +26,8 @@ pub fn write_type(text: &mut String, rules: RuleSet, ty: &Type) -> Made<()>
     ensures { Writes (spelling_by rules (view ty.now)) text.old text.new result }
 {
     match ty.form() {
+        Form::Scalar(scalar) => text.push_str(scalar.name()),
+        Form::Struct(structure) => text.push_str(&structure.name),
         Form::Array(None, element) => {
             text.push_str("array<")?;
             write_element(text, rules, element)?;

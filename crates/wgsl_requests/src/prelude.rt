@@ -3,6 +3,7 @@ pub(crate) use crate::answers::{Answer, Operands};
 pub(crate) use crate::reply::{Made, TextKind};
 pub(crate) use crate::requests::{Call, Request};
 pub(crate) use std::alloc::{AllocError, Global};
+pub(crate) use wgsl_calls::call::{NamedCall, Returned};
 pub(crate) use wgsl_core::error::{Error, Fail};
 pub(crate) use wgsl_core::layout::StructLayout;
 pub(crate) use wgsl_core::operators::resolve::ResolvedType;

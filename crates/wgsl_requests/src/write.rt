@@ -2,11 +2,13 @@
 ghost use Rattle.std.specs.Prelude.{◌≡◌, ◌++◌, IfOk, OnOk, codes, decimal, map, option_map, string_bytes};
 ghost use Rattle.wgsl_requests.specs.Prelude.{message, spelling, spelling_by, wgsl_spelling, refusal_text, view, element_view, answer_view as form_answer, form_type_view};
 ghost use Rattle.wgsl_core.specs.internal.Resolution.{resolved_view};
-ghost use Rattle.wgsl_requests.specs.Answers.{a_type, a_value};
+ghost use Rattle.wgsl_requests.specs.Answers.{a_type};
 ghost use Rattle.wgsl_requests.specs.Replies.{Adds, IsAnswer};
 ghost use Rattle.wgsl_requests.specs.Requests as requests;
 ghost use Rattle.wgsl_requests.specs.Texts.{Writes, answer_text, or_message, or_none, text_kind};
-ghost use Rattle.wgsl_requests.specs.Views.{IsRefusal, answer_view, first_type_of, operands_refusal, outcome, request_view};
+ghost use Rattle.wgsl_requests.specs.Views.{IsRefusal, answer_view, first_type_of, operands_refusal, outcome, request_view, value_view};
+ghost use Rattle.wgsl_calls.specs.Calls.{signature_of};
+ghost use Rattle.wgsl_rules.specs.errors.Refusals.{signature};
 
 mod layout;
 mod lists;
@@ -17,7 +19,10 @@ use crate::ask::answer;
 use crate::fast::{write_number, write_type};
 use crate::prelude::*;
 use layout::{write_layout, write_offsets};
-use overloads::{write_notes, write_resolution_of, write_signatures, write_type_of};
+use lists::write_types;
+use overloads::{
+    write_notes, write_resolution_of, write_signatures, write_template, write_type_of,
+};
 use wgsl_core::operators::resolve::Element;
 use wgsl_types::typed::{Typed, convert_to_common};
 
@@ -48,10 +53,11 @@ fn text_kind(answer: &Answer<'_>) -> TextKind
     ensures { result ≡ text_kind (answer_view answer.now) }
 {
     match answer {
-        Answer::Type(Err(_)) | Answer::Value(Err(_)) | Answer::Binary(Err(_)) => TextKind::Refusal,
+        Answer::Type(Err(_)) | Answer::Binary(Err(_)) => TextKind::Refusal,
+        Answer::Value(_, Err(_)) | Answer::Value(_, Ok(Returned::Refused)) => TextKind::Refusal,
         Answer::TypeOf(_, None) | Answer::Resolution(_, None) => TextKind::Refusal,
         Answer::FormType(Err(_)) | Answer::Fit(Err(_)) => TextKind::Refusal,
-        Answer::Type(Ok(_)) | Answer::Value(Ok(_)) | Answer::Binary(Ok(_)) => TextKind::Answer,
+        Answer::Type(Ok(_)) | Answer::Value(_, Ok(_)) | Answer::Binary(Ok(_)) => TextKind::Answer,
         Answer::TypeOf(_, Some(_)) | Answer::Resolution(_, Some(_)) => TextKind::Answer,
         Answer::Number(_) | Answer::Size(_, _) | Answer::Offsets(_) => TextKind::Answer,
         Answer::Layout(_, _) | Answer::Overloads(_) | Answer::Notes(_) => TextKind::Answer,
@@ -71,7 +77,7 @@ fn write_text(answer: &Answer<'_>, text: &mut String) -> Made<()>
             write_number_or_none(text, *align)
         }
         Answer::Type(made) => write_type_or_refusal(text, made),
-        Answer::Value(returned) => write_value_or_refusal(text, returned),
+        Answer::Value(call, returned) => write_value_or_refusal(text, *call, returned),
         Answer::Binary(Ok(ty)) => write_resolved(text, *ty),
         Answer::Binary(Err(operands)) => write_operands(text, *operands),
         Answer::Offsets(offsets) => write_offsets(text, offsets),
@@ -182,14 +188,34 @@ fn write_type_or_refusal(text: &mut String, made: &Result<Type, Fail<Error>>) ->
 
 /// Writes the type of a call, `no value`, or the message of a refusal.
 #[inline(always)]
-fn write_value_or_refusal(text: &mut String, value: &Result<Option<Type>, Fail<Error>>) -> Made<()>
-    ensures { Writes (answer_text (outcome a_value (option_map view) value.now)) text.old text.new result }
+#[tactic(auto, unfolding(wgsl_rules::specs::types::ResultStructs::result_struct))]
+fn write_value_or_refusal(
+    text: &mut String,
+    call: NamedCall<'_>,
+    returned: &Result<Returned, Fail<Error>>,
+) -> Made<()>
+    ensures { Writes (answer_text (value_view (signature_of call.entry) returned.now)) text.old text.new result }
 {
-    match value {
-        Ok(Some(ty)) => write_type(text, RuleSet::Ported, ty),
-        Ok(None) => text.push_str("no value"),
+    match returned {
+        Ok(Returned::Built(Some(ty))) => write_type(text, RuleSet::Ported, ty),
+        Ok(Returned::Built(None)) => text.push_str("no value"),
+        Ok(Returned::Split(of)) => text.push_str(of.name()),
+        Ok(Returned::Refused) => write_refused(text, call),
         Err(refused) => write_refusal(text, refused),
     }
+}
+
+/// Writes the message that a call is refused.
+#[inline(never)]
+fn write_refused(text: &mut String, call: NamedCall<'_>) -> Made<()>
+    ensures { Writes (message (signature (signature_of call.entry))) text.old text.new result }
+{
+    text.push_str("invalid function call signature: `")?;
+    text.push_str(call.name)?;
+    write_template(text, call.template)?;
+    text.push_str("(")?;
+    write_types(text, RuleSet::Ported, call.args)?;
+    text.push_str(")`")
 }
 
 /// Writes the message of a refusal. Out of memory is none.

@@ -1,5 +1,6 @@
 // The words of a request, consumed one after another.
-ghost use Rattle.std.specs.Prelude.{◌≡◌, ◌<◌, ◌↔◌, [], IsTrue, IsUtf8, MatchOption, None, OnErr, OnOk, length, not, take_while};
+ghost use Rattle.std.specs.Prelude.{◌≡◌, ◌<◌, ◌↔◌, [], IsTrue, IsUtf8, MatchOption, None, OnErr, OnOk, length, not};
+ghost use Rattle.std.specs.List.{prefix_len};
 ghost use Rattle.wgsl_replies.specs.words.Reader.{Gives, Reads, a_word, one, IsFirstWord, is_separator, words_of};
 ghost use Rattle.wgsl_replies.specs.words.Names.{attribute, count, long, small};
 
@@ -62,7 +63,8 @@ impl<'t> Words<'t> {
     pub fn is_empty(&self) -> bool
         ensures { IsTrue result ↔ (self.now ≡ []) }
     {
-        is_blank(&self.text[self.taken..])
+        let rest = &self.text[self.taken..];
+        gap_len(rest.as_bytes()) == rest.len()
     }
 
     /// A number of members.
@@ -126,28 +128,32 @@ pub fn first_word(text: &str) -> Option<(&str, usize)>
     Some((&rest[..len], gap + len))
 }
 
-/// Whether a text has no words.
-pub fn is_blank(text: &str) -> bool
-    ensures { IsTrue result ↔ (words_of text.now ≡ []) }
-{
-    gap_len(text.as_bytes()) == text.len()
-}
-
 /// How many separators the bytes begin with.
 fn gap_len(bytes: &[u8]) -> usize
-    ensures { result ≡ length (take_while is_separator bytes.now) }
+    ensures { result ≡ prefix_len is_separator bytes.now }
 {
-    bytes.iter().take_while(|byte| is_separator(**byte)).count()
+    let mut len = 0;
+    for byte in bytes {
+        if !is_separator(*byte) {
+            return len;
+        }
+        len += 1;
+    }
+    len
 }
 
 /// How many bytes come before the first separator.
 fn word_len(bytes: &[u8]) -> usize
-    ensures { result ≡ length (take_while (λ byte. not (is_separator byte)) bytes.now) }
+    ensures { result ≡ prefix_len (λ byte. not (is_separator byte)) bytes.now }
 {
-    bytes
-        .iter()
-        .take_while(|byte| !is_separator(**byte))
-        .count()
+    let mut len = 0;
+    for byte in bytes {
+        if is_separator(*byte) {
+            return len;
+        }
+        len += 1;
+    }
+    len
 }
 
 /// Spaces, tabs and carriage returns separate words, and nothing else does.

@@ -1,23 +1,23 @@
 // Writes lists.
 ghost use Rattle.std.specs.Prelude.{◌≡◌, ◌++◌, ℕ, List, OnOk, Some, map, string_bytes};
-ghost use Rattle.wgsl_requests.specs.Prelude.{listed, parameter_text, wgsl_spelling, parameter_view, view};
+ghost use Rattle.wgsl_requests.specs.Prelude.{listed, parameter_text, spelling_by, parameter_view, view};
 ghost use Rattle.wgsl_requests.specs.Texts.{Writes, lines_text};
 
 use crate::fast::write_type;
 use crate::prelude::*;
 use std::fmt;
 
-/// Writes types, with a comma between, by WGSL's own names.
-pub fn write_types(text: &mut String, types: &[Type]) -> Made<()>
-    ensures { Writes (listed (λ t. wgsl_spelling (view t)) types.now) text.old text.new result }
+/// Writes types, with a comma between, by the names of these rules.
+pub fn write_types(text: &mut String, rules: RuleSet, types: &[Type]) -> Made<()>
+    ensures { Writes (listed (λ t. spelling_by rules (view t)) types.now) text.old text.new result }
 {
     let Some((first, rest)) = types.split_first() else {
         return Ok(());
     };
-    write_type(text, RuleSet::Standard, first)?;
+    write_type(text, rules, first)?;
     for ty in rest {
         text.push_str(", ")?;
-        write_type(text, RuleSet::Standard, ty)?;
+        write_type(text, rules, ty)?;
     }
     Ok(())
 }

@@ -56,7 +56,7 @@ pub fn write_signature(
     ensures { Writes (resolution_text (index, map view parameters.now, option_map view of_result.now)) text.old text.new result }
 {
     write!(text, "{index} (")?;
-    write_types(text, parameters)?;
+    write_types(text, RuleSet::Standard, parameters)?;
     text.push_str(")")?;
     write_result(text, of_result)
 }
@@ -152,7 +152,7 @@ fn write_callee(text: &mut String, callee: Callee<'_>) -> Made<()>
     }
 }
 
-fn write_template(text: &mut String, template: Option<&[TpltParam]>) -> Made<()>
+pub(crate) fn write_template(text: &mut String, template: Option<&[TpltParam]>) -> Made<()>
     ensures { Writes (template_text (option_map (λ ps. map parameter_view ps.now) template.entry)) text.old text.new result }
 {
     match template {

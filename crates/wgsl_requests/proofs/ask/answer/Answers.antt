@@ -5,11 +5,15 @@ use Rattle.wgsl_rules.specs.errors.Refusals.{Refusal}
 use Rattle.wgsl_core.specs.Answer.{AnswersAs, IsAnswered}
 use Rattle.wgsl_core.specs.declared.error.Error.{Error}
 use Rattle.wgsl_core.specs.declared.error.Fail.TheVariants as fails
-use Rattle.wgsl_requests.specs.Answers.{Answers, AreOffsetsOf, IsLayoutOf, WgslAnswer, a_type, a_value, rank_is, unary_is, binary_is, size_is, offsets_are, layout_is, ctor_is, call_is, type_of_is, resolution_of_is, explanation_of_is, unknown_is, overloads_of_are, form_is, fit_is}
+use Rattle.wgsl_requests.specs.Answers.{Answers, AreOffsetsOf, IsLayoutOf, WgslAnswer, a_type, rank_is, unary_is, binary_is, size_is, offsets_are, layout_is, ctor_is, call_is, type_of_is, resolution_of_is, explanation_of_is, unknown_is, overloads_of_are, form_is, fit_is}
 use Rattle.wgsl_rules.specs.operators.Answers.{IsUnaryAnswer}
 use Rattle.wgsl_rules.specs.constructors.Constructors.{IsConstructorAnswer}
 use Rattle.wgsl_rules.specs.calls.Answers.{IsCallAnswer}
+use Rattle.wgsl_rules.specs.types.Signatures.{Signature}
 use Rattle.wgsl_calls.specs.Calls.{signature_of}
+use Rattle.wgsl_calls.specs.Returned.{Returns}
+use Rattle.wgsl_calls.specs.declared.call.Returned.{Returned}
+use Rattle.wgsl_requests.specs.Views.{value_view}
 use Rattle.wgsl_requests.proofs.Overloaded.{same_types}
 use Rattle.wgsl_requests.proofs.ask.answer.Goals as goal
 
@@ -19,6 +23,12 @@ settles : {A B : Type 0} (answered : Result B Refusal → WgslAnswer) (shown : A
 settles answered shown P request (Ok a) e h so = so _ (subst (AnswersAs shown P) e.0 h)
 settles answered shown P request (Err (fails.Error x)) e h so = so _ (subst (AnswersAs shown P) e.0 h)
 settles answered shown P request (Err (fails.Memory x)) e h so = absurd e.1
+
+-- the same of a call
+returned : (c : Signature) {made : Result Returned (Fail Error)} (r : Result Returned (Fail Error)) → (made ≡ r) × IsAnswered r → Returns (IsCallAnswer c) c made → Answers (call c) (value_view c r)
+returned c (Ok x) e h = call_is _ (subst (Returns (IsCallAnswer c) c) e.0 h)
+returned c (Err (fails.Error x)) e h = call_is _ (subst (Returns (IsCallAnswer c) c) e.0 h)
+returned c (Err (fails.Memory x)) e h = absurd e.1
 
 offsets_seen : (rules : RuleSet) (ms : Members) (found : Option (Vec ℕ Global)) → (let r : Result (Option (Vec ℕ Global)) AllocError = Ok found in r ≡ Ok None → HasNoSizeBy rules ms) → IfSome found (λ v. AreOffsetsBy rules ms v.items) →
     AreOffsetsOf rules ms (option_map (λ v. v.items) found)
@@ -64,9 +74,8 @@ returns-in_ok-settled-in-Constructor c =
 
 pub returns-in_ok-settled-in-Call : goal.returns-in_ok-settled-in-Call
 returns-in_ok-settled-in-Call c =
-    let made = signature_of c.in-Call.named in
     let h = c.in_ok-settled-in-Call in
-    rw c.in-Call.is (settles a_value (option_map view) (IsCallAnswer made) (call made) h.field-0 h.ensures c.type_builtin_fn-made.ensures.row (λ r d. call_is r d))
+    rw c.in-Call.is (returned (signature_of c.in-Call.named) h.field-0 h.ensures c.returned_by-made.ensures)
 
 pub returns-in_ok-type_of-in-Type : goal.returns-in_ok-type_of-in-Type
 returns-in_ok-type_of-in-Type c = rw c.in-Type.is (type_of_is _ c.in_ok-type_of-in-Type.ensures)

@@ -4,7 +4,6 @@ use Rattle.wgsl_rules.specs.conversion.Common.{IsLeftCommon, of_no_types}
 use Rattle.wgsl_rules.specs.conversion.Converted.{all_to}
 use Rattle.wgsl_rules.specs.Headline.{Receives}
 use Rattle.wgsl_rules.proofs.conversion.Order.{dec_converts}
-use Rattle.wgsl_core.specs.Converted.{converted}
 use Rattle.wgsl_core.proofs.Converted.{converted_some, converted_none}
 use Rattle.wgsl_types.specs.Typed.{on_line, typed, typed_to}
 use Rattle.wgsl_types.specs.declared.typed.Typed.{Typed}
