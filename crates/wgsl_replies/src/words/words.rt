@@ -63,8 +63,7 @@ impl<'t> Words<'t> {
     pub fn is_empty(&self) -> bool
         ensures { IsTrue result ↔ (self.now ≡ []) }
     {
-        let rest = &self.text[self.taken..];
-        gap_len(rest.as_bytes()) == rest.len()
+        is_blank(&self.text[self.taken..])
     }
 
     /// A number of members.
@@ -126,6 +125,13 @@ pub fn first_word(text: &str) -> Option<(&str, usize)>
     }
     let len = word_len(rest.as_bytes());
     Some((&rest[..len], gap + len))
+}
+
+/// Whether a text has no words.
+fn is_blank(text: &str) -> bool
+    ensures { IsTrue result ↔ (words_of text.now ≡ []) }
+{
+    gap_len(text.as_bytes()) == text.len()
 }
 
 /// How many separators the bytes begin with.
