@@ -43,6 +43,17 @@ pub mod fmt {
 }
 
 #[cfg(feature = "text")]
+pub mod num {
+    pub fn saturating_f32_to_i64(float: f32) -> i64 {
+        float as i64
+    }
+
+    pub fn saturating_f64_to_i64(float: f64) -> i64 {
+        float as i64
+    }
+}
+
+#[cfg(feature = "text")]
 pub mod marker {
     /// A type of which contracts see one value, as a list.
     pub trait Model {}

@@ -1,6 +1,7 @@
 -- The names among items, while the events of a template list are read.
 use Rattle.std.proofs.Common.{◌≡◌, ℕ, List, [], ◌∷◌, ◌++◌, Bool, true, false, IfOk, Result, Ok, Err, Option, Some, None, option_map, ap, refl, subst, sym, ◌∙◌, append_assoc, append-nil}
-use Rattle.wgsl_source.proofs.Common.{Event, word, token_before, AreSaid, Say, a_space, both, names_only, with_name, Text}
+use Rattle.wgsl_source.specs.Qualifiers.{IsFree}
+use Rattle.wgsl_source.proofs.Common.{All-cons, All-nil, Event, word, token_before, AreSaid, Say, a_space, both, names_only, with_name, Text}
 use Rattle.wgsl_reader.specs.declared.mark.Mark.{Mark}
 use Rattle.wgsl_reader.specs.declared.mark.Mark.TheVariants as m
 use Rattle.wgsl_reader.specs.declared.token.Token.{Token}
@@ -8,6 +9,7 @@ use Rattle.wgsl_syntax.specs.declared.address.AccessMode.{AccessMode}
 use Rattle.wgsl_syntax.specs.declared.address.AddressSpace.{AddressSpace}
 use Rattle.wgsl_source.specs.TemplateLists.{IsListedAs}
 use Rattle.wgsl_source.specs.WrittenTypes.{BecomesValue, Environment, IsBinary, IsElementOf, IsMemberOf, IsSettled, IsUnary, IsValueCalled, Step, Steps, item}
+use Rattle.wgsl_source.specs.declared.scope.Meaning.{Meaning}
 use Rattle.wgsl_source.specs.declared.value.Value.{Value}
 use Rattle.wgsl_source.specs.internal.Items.{HasAccess, NamesSpace, item_names, with_content}
 use Rattle.wgsl_source.specs.declared.item.Content.{Content}
@@ -131,19 +133,22 @@ module _ (t : Text) where
 name_of : (i : Item) (items : List Item) (names : List Token) → i.content ≡ content.Name → item_names items ≡ Some names → item_names (i ∷ items) ≡ Some (i.token ∷ names)
 name_of i items names is rest = ap (λ c. with_content c i.token (item_names items)) is ∙ ap (with_content content.Name i.token) rest
 
-pub space_said : (t : Text) (first : Item) (rest : List Item) (space : AddressSpace) (access : AccessMode) → NamesSpace t first space → HasAccess t space rest access
-    → AreSaid t (item_names (first ∷ rest)) space access
-space_said t first [] space access named is = record {
+pub space_said : (t : Text) (meant : List ℕ → Option Meaning) (first : Item) (rest : List Item) (space : AddressSpace) (access : AccessMode) → NamesSpace t meant first space
+    → HasAccess t meant space rest access → AreSaid t meant (item_names (first ∷ rest)) space access
+space_said t meant first [] space access named is = record {
   tokens = first.token ∷ [];
   there = name_of first [] [] named.name refl;
+  undeclared = All-cons (IsFree t meant) first.token [] named.undeclared (All-nil (IsFree t meant));
   say = subst (λ a. Say (word t.text.now first.token ∷ []) space a) (sym is) (a_space named.text);
 }
-space_said t first (item ∷ []) space access named h = record {
+space_said t meant first (item ∷ []) space access named h = record {
   tokens = first.token ∷ item.token ∷ [];
   there = name_of first (item ∷ []) (item.token ∷ []) named.name (name_of item [] [] h.0.name refl);
+  undeclared =
+      All-cons (IsFree t meant) first.token (item.token ∷ []) named.undeclared (All-cons (IsFree t meant) item.token [] h.0.undeclared (All-nil (IsFree t meant)));
   say = subst (λ text. Say (word t.text.now first.token ∷ text ∷ []) space access) (sym h.0.text) (both named.text h.1);
 }
-space_said t first (a ∷ b ∷ more) space access named h = absurd h
+space_said t meant first (a ∷ b ∷ more) space access named h = absurd h
 
 pub both_ok : {A E : Type 0} (P Q : A → Type 0) (r : Result A E) → IfOk r P → IfOk r Q → IfOk r (λ a. P a × Q a)
 both_ok P Q (Ok a) p q = (p, q)

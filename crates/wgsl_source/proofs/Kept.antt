@@ -91,12 +91,12 @@ module _ (s : Scope) (types : Types) where
 
   -- a declaration of this kind is read
   pub all_added : {E R : Type 0} (r : Result R E) (d : Declaration) (k : DeclarationKind) (a b : Others) → d.kind ≡ k → AddsIf typed_variables (is_kind k kinds.Variable) r d a.variables.items b.variables.items
-      → AddsIf (of_overrides s.text (meaning_of s)) (is_kind k kinds.Override) r d a.overrides.items b.overrides.items
+      → AddsIf (of_overrides s.text (environment s types)) (is_kind k kinds.Override) r d a.overrides.items b.overrides.items
       → AddsIf (of_entry_points s.text (meaning_of s)) (is_kind k kinds.Function) r d a.entry_points.items b.entry_points.items
       → AddsIf typed_aliases (is_kind k kinds.Alias) r d a.aliases.items b.aliases.items → AddsOthers s types ⊥ (if_read r d) a b
   all_added r d k a b is one two three four = record {
     variables = by_kind typed_variables (is_kind k kinds.Variable) r d k a.variables.items b.variables.items refl is one;
-    overrides = by_kind (of_overrides s.text (meaning_of s)) (is_kind k kinds.Override) r d k a.overrides.items b.overrides.items refl is two;
+    overrides = by_kind (of_overrides s.text (environment s types)) (is_kind k kinds.Override) r d k a.overrides.items b.overrides.items refl is two;
     entry_points = by_kind (of_entry_points s.text (meaning_of s)) (is_kind k kinds.Function) r d k a.entry_points.items b.entry_points.items refl is three;
     aliases = by_kind typed_aliases (is_kind k kinds.Alias) r d k a.aliases.items b.aliases.items refl is four;
   }
@@ -104,7 +104,7 @@ module _ (s : Scope) (types : Types) where
   pub no_others : (P : Type 0) (a : Others) → AddsOthers s types P [] a a
   no_others P a = record {
     variables = adds_none typed_variables P a.variables.items;
-    overrides = adds_none (of_overrides s.text (meaning_of s)) P a.overrides.items;
+    overrides = adds_none (of_overrides s.text (environment s types)) P a.overrides.items;
     entry_points = adds_none (of_entry_points s.text (meaning_of s)) P a.entry_points.items;
     aliases = adds_none typed_aliases P a.aliases.items;
   }
@@ -112,7 +112,7 @@ module _ (s : Scope) (types : Types) where
   pub left_others : (P : Type 0) (d : Declaration) (a : Others) → ((A : Type 0) (sort : Sort A) → IsLeftOf sort P d) → AddsOthers s types P (d ∷ []) a a
   left_others P d a is = record {
     variables = adds_left typed_variables P d a.variables.items (is _ typed_variables);
-    overrides = adds_left (of_overrides s.text (meaning_of s)) P d a.overrides.items (is _ (of_overrides s.text (meaning_of s)));
+    overrides = adds_left (of_overrides s.text (environment s types)) P d a.overrides.items (is _ (of_overrides s.text (environment s types)));
     entry_points = adds_left (of_entry_points s.text (meaning_of s)) P d a.entry_points.items (is _ (of_entry_points s.text (meaning_of s)));
     aliases = adds_left typed_aliases P d a.aliases.items (is _ typed_aliases);
   }
@@ -120,7 +120,7 @@ module _ (s : Scope) (types : Types) where
   others_further : (P Q : Type 0) (ds es : List Declaration) (a b c : Others) → (P → Q) → AddsOthers s types P ds a b → AddsOthers s types Q es b c → AddsOthers s types Q (ds ++ es) a c
   others_further P Q ds es a b c all g h = record {
     variables = adds_further typed_variables P Q ds es a.variables.items b.variables.items c.variables.items all g.variables h.variables;
-    overrides = adds_further (of_overrides s.text (meaning_of s)) P Q ds es a.overrides.items b.overrides.items c.overrides.items all g.overrides h.overrides;
+    overrides = adds_further (of_overrides s.text (environment s types)) P Q ds es a.overrides.items b.overrides.items c.overrides.items all g.overrides h.overrides;
     entry_points = adds_further (of_entry_points s.text (meaning_of s)) P Q ds es a.entry_points.items b.entry_points.items c.entry_points.items all g.entry_points h.entry_points;
     aliases = adds_further typed_aliases P Q ds es a.aliases.items b.aliases.items c.aliases.items all g.aliases h.aliases;
   }
@@ -217,7 +217,7 @@ has_declared t s types whole ds faults a b m are same added variables overrides 
     let h = subst (λ fs. AddsOthers s types (fs ≢ []) ds a b) (sym told) added in
     subst (λ (t : Text). HasDeclared t env whole m) same (record {
       variables = all_kept u P (of_variables u env) whole ds a.variables.items b.variables.items m.variables.items of h.variables variables (ap (λ v. v.items) all_variables);
-      overrides = all_kept u P (of_overrides u (meaning_of s)) whole ds a.overrides.items b.overrides.items m.overrides.items of h.overrides overrides (ap (λ v. v.items) all_overrides);
+      overrides = all_kept u P (of_overrides u env) whole ds a.overrides.items b.overrides.items m.overrides.items of h.overrides overrides (ap (λ v. v.items) all_overrides);
       entry_points = all_kept u P (of_entry_points u (meaning_of s)) whole ds a.entry_points.items b.entry_points.items m.entry_points.items of h.entry_points entry_points (ap (λ v. v.items) all_entry_points);
       aliases = all_kept u P (of_aliases u env) whole ds a.aliases.items b.aliases.items m.aliases.items of h.aliases aliases (ap (λ v. v.items) all_aliases);
     })

@@ -14,18 +14,23 @@ use Rattle.wgsl_source.proofs.Common.{at_drop_more, same_Some, Event, word, toke
 use Rattle.wgsl_source.proofs.Members.{still_at}
 use Rattle.wgsl_source.specs.Calls.{callee_named, callee_of}
 use Rattle.wgsl_source.specs.Declarations.{declared_type, initializer}
-use Rattle.wgsl_source.specs.TemplateLists.{AreParameters, IsListedAs, IsSampledBy}
+use Rattle.wgsl_source.specs.TextDeclarations.{HasScalar, declared, of_default}
+use Rattle.wgsl_source.specs.TemplateLists.{AreParameters, IsFlag, IsListedAs, IsSampledBy}
 use Rattle.wgsl_source.specs.WrittenTypes.{AreElements, BecomesValue, Closes, Environment, HasConstant, HasType, HasTypeIf, HasValue, IsAround, IsBinary, IsCount, IsElementOf, IsLayered, IsListed, IsListedBy, IsMemberOf, IsNoSign, IsPointer, IsSettled, IsTypeSaid, IsUnary, IsValueCalled, IsValueSaid, StandsFor, Step, Steps, environment, index_of, item, meaning_of}
 use Rattle.wgsl_spelling.specs.declared.predeclared.LayerName.{LayerName}
 use Rattle.wgsl_spelling.specs.declared.predeclared.LayerName.TheVariants as layer
 use Rattle.wgsl_spelling.specs.declared.predeclared.PredeclaredType.{PredeclaredType}
 use Rattle.wgsl_spelling.specs.declared.predeclared.PredeclaredType.TheVariants as p
+use Rattle.wgsl_syntax.specs.declared.address.AccessMode.{AccessMode}
+use Rattle.wgsl_syntax.specs.declared.address.AddressSpace.{AddressSpace}
+use Rattle.wgsl_syntax.specs.declared.attribute.AccelerationStructureFlags.{AccelerationStructureFlags}
+use Rattle.wgsl_syntax.specs.declared.scalar.Scalar.{Scalar}
 use Rattle.wgsl_syntax.specs.declared.texture.SampledType.{SampledType}
 use Rattle.wgsl_syntax.specs.declared.texture_name.TextureParameters.{TextureParameters}
 use Rattle.wgsl_syntax.specs.declared.texture_name.TextureParameters.TheVariants as parameters
 use Rattle.wgsl_source.specs.declared.call.Callee.{Callee}
 use Rattle.wgsl_source.specs.declared.value.Value.{Value}
-use Rattle.wgsl_source.specs.internal.Items.{IsPut}
+use Rattle.wgsl_source.specs.internal.Items.{HasAccess, IsPut, NamesAccess}
 use Rattle.wgsl_source.specs.internal.Read.{AreNamed, Stays}
 use Rattle.wgsl_source.specs.declared.item.Content.{Content}
 use Rattle.wgsl_source.specs.declared.item.Content.TheVariants as content
@@ -136,6 +141,18 @@ module _ (t : Text) (e f : Environment) (read : (name : List ℕ) (m : Meaning) 
   still_around l (i ∷ []) ty h = (h.0, still_said i.token i.content h.0 h.1, h.2)
   still_around l (i ∷ j ∷ more) ty h = h
 
+  still_mode : (i : Item) (access : AccessMode) → NamesAccess t e.named i access → NamesAccess t f.named i access
+  still_mode i access h = record { name = h.name; undeclared = undeclared (word t.text.now i.token) h.undeclared; text = h.text }
+
+  still_access : (space : AddressSpace) (items : List Item) (access : AccessMode) → HasAccess t e.named space items access → HasAccess t f.named space items access
+  still_access space [] access h = h
+  still_access space (i ∷ []) access h = (still_mode i access h.0, h.1)
+  still_access space (i ∷ j ∷ more) access h = h
+
+  still_flag : (items : List Item) (flag : AccelerationStructureFlags) → IsFlag t e.named items flag → IsFlag t f.named items flag
+  still_flag (i ∷ []) flag h = record { name = h.name; undeclared = undeclared (word t.text.now i.token) h.undeclared; text = h.text }
+  still_flag items flag h = absurd h
+
   still_pointer : (items : List Item) (ty : MeasuredType) → IsPointer t e items ty → IsPointer t f items ty
   still_pointer [] ty h = h
   still_pointer (i ∷ []) ty h = h
@@ -144,9 +161,9 @@ module _ (t : Text) (e f : Environment) (read : (name : List ℕ) (m : Meaning) 
     access = h.access;
     inside = h.inside;
     index = h.index;
-    names = h.names;
+    names = record { name = h.names.name; undeclared = undeclared (word t.text.now i.token) h.names.undeclared; text = h.names.text };
     said = still_said j.token j.content h.inside h.said;
-    accessed = h.accessed;
+    accessed = still_access h.space rest h.access h.accessed;
     is = h.is;
     there = there h.index h.inside h.there;
   }
@@ -179,14 +196,15 @@ module _ (t : Text) (e f : Environment) (read : (name : List ℕ) (m : Meaning) 
   still_parameters (i ∷ []) (parameters.Sampled sampled) h =
       let name = word t.text.now i.token in
       record { name = h.name; is = still_sampled name (e.named name) (f.named name) sampled (λ ty at. read name (meaning.«Type» ty) (type_read ty) at) (undeclared name) h.is }
-  still_parameters (i ∷ j ∷ []) (parameters.Storage format access) h = h
+  still_parameters (i ∷ j ∷ []) (parameters.Storage format access) h =
+      (record { name = h.0.name; undeclared = undeclared (word t.text.now i.token) h.0.undeclared; text = h.0.text }, still_mode j access h.1)
   still_parameters items other h = absurd h
 
   still_listed : (named : PredeclaredType) (items : List Item) (ty : MeasuredType) → IsListed t e named items ty → IsListed t f named items ty
   still_listed (p.Layer l) items ty h = still_layered l items ty h
   still_listed (p.Texture name) items ty h = (h.0, record { parameters = h.1.parameters; said = still_parameters items h.1.parameters h.1.said; is = h.1.is }, h.2)
-  still_listed p.RayQuery items ty h = h
-  still_listed p.AccelerationStructure items ty h = h
+  still_listed p.RayQuery items ty h = (h.0, still_flag items h.0 h.1, h.2)
+  still_listed p.AccelerationStructure items ty h = (h.0, still_flag items h.0 h.1, h.2)
   still_listed named items ty h = absurd h
 
   still_listed_as : (name : List ℕ) (items : List Item) (c : Content) → IsListedAs t e name items c → IsListedAs t f name items c
@@ -271,6 +289,11 @@ still_type t a b x y events ty s g h =
     let e = environment a x in
     let f = environment b y in
     (h.0, still_steps t e f s.meanings s.undeclared (still_there x y g) events [] (h.0 ∷ []) h.1, still_said t e f s.meanings s.undeclared (still_there x y g) h.0.token h.0.content ty h.2)
+
+pub still_scalar : (t : Text) (s : Scope) (x y : Types) (ty value : List Event) (scalar : Option Scalar) → Grows x y → HasScalar t (environment s x) ty value scalar
+    → HasScalar t (environment s y) ty value scalar
+still_scalar t s x y ty value scalar g (declared h) = declared (h.0, still_type t s s x y ty h.0 (stays_same s s refl) g h.1, h.2)
+still_scalar t s x y ty value scalar g (of_default none h) = of_default none h
 
 -- one step more is taken while the events are read
 pub all_steps : (t : Text) (s : Scope) (x y : Types) (events : List Event) (i : ℕ) (event : Event) (items next new : List Item) → i < length events → Grows x y

@@ -1,5 +1,6 @@
 -- The address space and the access mode of a variable (WGSL, "Variable Declarations").
 use Rattle.std.specs.Prelude.{◌≡◌, ℕ, List, [], ◌∷◌, true, Option, Some, None, map, option_map}
+use Rattle.std.specs.List.{All}
 use Rattle.wgsl_reader.specs.declared.mark.Mark.{Mark}
 use Rattle.wgsl_reader.specs.declared.mark.Mark.TheVariants as m
 use Rattle.wgsl_reader.specs.declared.read.Event.{Event}
@@ -12,6 +13,7 @@ use Rattle.wgsl_syntax.specs.declared.address.AddressSpace.{AddressSpace}
 use Rattle.wgsl_syntax.specs.declared.address.AddressSpace.TheVariants.{Handle}
 use Rattle.wgsl_syntax.specs.declared.rules.RuleSet.TheVariants.{Standard}
 use Rattle.wgsl_source.specs.Declarations.{inner, token_before}
+use Rattle.wgsl_source.specs.declared.scope.Meaning.{Meaning}
 use Rattle.wgsl_source.specs.declared.text.Text.{Text}
 
 -- one name more in front; anything else is no name
@@ -35,12 +37,17 @@ pub data Say : List (List ℕ) → AddressSpace → AccessMode → Type 0 where
   both : {text : List ℕ} {space : AddressSpace} {access : AccessMode} → IsSpace Standard text space → may_say space access ≡ true
       → Say (text ∷ access_text access ∷ []) space access
 
--- names say them
-pub record AreSaid (t : Text) (names : Option (List Token)) (space : AddressSpace) (access : AccessMode) : Type 0 where
+-- the module doesn't declare a name
+abbrev pub IsFree : Text → (List ℕ → Option Meaning) → Token → Type 0
+IsFree t named token = named (word t.text.now token) ≡ None
+
+-- names say them, none of which the module declares
+pub record AreSaid (t : Text) (named : List ℕ → Option Meaning) (names : Option (List Token)) (space : AddressSpace) (access : AccessMode) : Type 0 where
   pub tokens : List Token
   pub there : names ≡ Some tokens
+  pub undeclared : All (IsFree t named) tokens
   pub say : Say (map (word t.text.now) tokens) space access
 
 -- a template list says them: `<storage, read_write>`
-abbrev pub IsQualified : Text → List Event → AddressSpace → AccessMode → Type 0
-IsQualified t list space access = AreSaid t (names_only t (inner list)) space access
+abbrev pub IsQualified : Text → (List ℕ → Option Meaning) → List Event → AddressSpace → AccessMode → Type 0
+IsQualified t named list space access = AreSaid t named (names_only t (inner list)) space access

@@ -111,9 +111,9 @@ pub record PointsTo (t : Text) (e : Environment) (s x : Item) (rest : List Item)
   pub access : AccessMode
   pub inside : MeasuredType
   pub index : ℕ
-  pub names : NamesSpace t s space
+  pub names : NamesSpace t e.named s space
   pub said : IsTypeSaid t e.named x.token x.content inside
-  pub accessed : HasAccess t space rest access
+  pub accessed : HasAccess t e.named space rest access
   pub is : IsResource (kind.Pointer space index access) ty
   pub there : slice_get e.elements index ≡ Some inside
 
@@ -146,7 +146,7 @@ pub record IsSampled (t : Text) (named : List ℕ → Option Meaning) (item : It
 -- `f32` in `texture_2d<f32>`, `rgba8unorm, write` in `texture_storage_2d<rgba8unorm, write>`
 abbrev pub AreParameters : Text → (List ℕ → Option Meaning) → List Item → TextureParameters → Type 0
 AreParameters t named (x ∷ []) (parameters.Sampled s) = IsSampled t named x s
-AreParameters t named (x ∷ y ∷ []) (parameters.Storage format access) = NamesFormat t x format × NamesAccess t y access
+AreParameters t named (x ∷ y ∷ []) (parameters.Storage format access) = NamesFormat t named x format × NamesAccess t named y access
 AreParameters t named items other = ⊥
 
 pub record IsTexture (t : Text) (named : List ℕ → Option Meaning) (name : TextureName) (items : List Item) (texture : TextureType) : Type 0 where
@@ -155,16 +155,16 @@ pub record IsTexture (t : Text) (named : List ℕ → Option Meaning) (name : Te
   pub is : texture_with name parameters ≡ Some texture
 
 -- `vertex_return` in `ray_query<vertex_return>`
-abbrev pub IsFlag : Text → List Item → AccelerationStructureFlags → Type 0
-IsFlag t (x ∷ []) flag = NamesFlag t x flag
-IsFlag t items flag = ⊥
+abbrev pub IsFlag : Text → (List ℕ → Option Meaning) → List Item → AccelerationStructureFlags → Type 0
+IsFlag t named (x ∷ []) flag = NamesFlag t named x flag
+IsFlag t named items flag = ⊥
 
 -- a predeclared name with a list stands for this type
 abbrev pub IsListed : Text → Environment → PredeclaredType → List Item → MeasuredType → Type 0
 IsListed t e (p.Layer l) items ty = IsLayered t e l items ty
 IsListed t e (p.Texture name) items ty = (x : TextureType) × IsTexture t e.named name items x × IsResource (kind.Texture x) ty
-IsListed t e p.RayQuery items ty = (flag : AccelerationStructureFlags) × IsFlag t items flag × IsResource (kind.RayQuery (Some flag)) ty
-IsListed t e p.AccelerationStructure items ty = (flag : AccelerationStructureFlags) × IsFlag t items flag × IsResource (kind.AccelerationStructure (Some flag)) ty
+IsListed t e p.RayQuery items ty = (flag : AccelerationStructureFlags) × IsFlag t e.named items flag × IsResource (kind.RayQuery (Some flag)) ty
+IsListed t e p.AccelerationStructure items ty = (flag : AccelerationStructureFlags) × IsFlag t e.named items flag × IsResource (kind.AccelerationStructure (Some flag)) ty
 IsListed t e named items ty = ⊥
 
 -- a name with a list that the module doesn't declare: a type, or what is called

@@ -1,8 +1,12 @@
 -- The values of operators, components and literals, and values in their types (WGSL, "Literals", "Expressions", "Conversion Rank").
-use Rattle.std.specs.Prelude.{◌≡◌, ℕ, ℤ, pos, negsuc, List, [], ◌∷◌, Bool, Option, Some, None, slice_get}
+use Rattle.std.specs.Prelude.{◌≡◌, ℕ, ℤ, pos, negsuc, List, [], ◌∷◌, Bool, Option, Some, None, cond, option_map, slice_get}
+use Rattle.std.specs.Float.{float_to_signed}
+use Rattle.std.specs.Float.Ieee.{Format, binary32, binary64}
+use Rattle.std.specs.Float.Parse.{parse_float}
+use Rattle.std.specs.Int.{w64}
 use Rattle.wgsl_constants.specs.Calls.{called}
 use Rattle.wgsl_constants.specs.Conversions.{number}
-use Rattle.wgsl_constants.specs.Literals.{found, integer_of, then}
+use Rattle.wgsl_constants.specs.Literals.{ends_with, found, integer_of, then, without_last}
 use Rattle.wgsl_constants.specs.Values.{map_value}
 use Rattle.wgsl_constants.specs.Vectors.{alike, component, component_named, like, zero_of}
 use Rattle.wgsl_constants.specs.declared.call.Arguments.TheVariants.{One}
@@ -30,11 +34,21 @@ use Rattle.wgsl_source.specs.declared.value.Value.TheVariants as value
 
 -- Literals
 
--- a number: `4u`. Of a float nothing is said but that it is no integer.
+-- the whole part of the nearest float to decimal digits, with a point and an exponent, as the nearest integer of 64 bits
+abbrev pub whole_of : Format → List ℕ → Option ℤ
+whole_of format digits = option_map (float_to_signed w64) (parse_float format digits)
+
+-- `1.5f` is a float of 32 bits; `1.5` and `1.5h` are read as one of 64
+abbrev pub whole_part : List ℕ → Option ℤ
+whole_part text =
+    cond (ends_with 102 text) (whole_of binary32 (without_last text))
+    (cond (ends_with 104 text) (whole_of binary64 (without_last text)) (whole_of binary64 text))
+
+-- a number: `4u`. Of a float the whole part is kept.
 abbrev pub IsNumber : List ℕ → Constant → Type 0
 IsNumber text (constant.Integer i) = integer_of text ≡ Some i
 IsNumber text (constant.Bool b) = ⊥
-IsNumber text (constant.Float whole) = integer_of text ≡ None
+IsNumber text (constant.Float whole) = (integer_of text ≡ None) × (whole_part text ≡ Some whole)
 
 -- `true`, or a number
 abbrev pub IsLiteralBy : Option Bool → List ℕ → Constant → Type 0

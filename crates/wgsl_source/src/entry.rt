@@ -1,8 +1,9 @@
 // Entry points and overrides: what a pipeline is created from.
-ghost use Rattle.std.specs.Prelude.{IfOk};
+ghost use Rattle.std.specs.Prelude.{◌≡◌, IfOk, IfSome};
 ghost use Rattle.wgsl_source.specs.Members.{Grows};
-ghost use Rattle.wgsl_source.specs.TextDeclarations.{of_entry_points, of_overrides};
-ghost use Rattle.wgsl_source.specs.WrittenTypes.{meaning_of};
+ghost use Rattle.wgsl_source.specs.TextDeclarations.{HasScalar, IsDeclaredScalar, IsOfValue, of_entry_points, of_overrides, type_of_value};
+ghost use Rattle.wgsl_source.specs.WrittenTypes.{environment, meaning_of};
+ghost use Rattle.wgsl_source.specs.declared.types.Types.{Types as of_types};
 ghost use Rattle.wgsl_source.specs.internal.Others.{IsReadOf};
 
 use crate::attribute::Owner;
@@ -98,26 +99,40 @@ impl<'t> Scope<'t> {
         declaration: &Declaration<'t>,
     ) -> Result<Option<Override<'t>>, Stop>
         ensures grows { Grows types.old types.new }
-        ensures read { IfOk result (IsReadOf (of_overrides self.now.text (meaning_of self.now)) declaration.now) }
+        ensures read { (later : of_types) → Grows types.new later
+            → IfOk result (IsReadOf (of_overrides self.now.text (environment self.now later)) declaration.now) }
     {
         let (attributes, _) = self.read_attributes(declaration.attributes, Owner::Override)?;
-        let Initialized { ty, value, .. } = self.initialized(declaration);
-        let ty = match ty {
-            [] if value.is_empty() => return Err(Stop::at(declaration.place, Cause::NoType)),
-            [] => self.default_type(value)?,
-            _ => Some(self.read_scalar(types, ty)?),
-        };
+        let initialized = self.initialized(declaration);
         Ok(Some(Override {
             name: declaration.name,
             place: declaration.place,
             id: attributes.id,
-            ty,
-            has_default: !value.is_empty(),
+            ty: self.scalar_type(types, declaration.place, initialized)?,
+            has_default: !initialized.value.is_empty(),
         }))
     }
 
+    /// The type of an override whose name stands at this byte; None if it follows from its value, and that isn't computed here.
+    fn scalar_type(
+        &self,
+        types: &mut Types,
+        place: usize,
+        initialized: Initialized,
+    ) -> Result<Option<Scalar>, Stop>
+        ensures grows { Grows types.old types.new }
+        ensures read { IfOk result (HasScalar self.now.text (environment self.now types.new) initialized.entry.ty.now initialized.entry.value.now) }
+    {
+        match initialized.ty {
+            [] if initialized.value.is_empty() => Err(Stop::at(place, Cause::NoType)),
+            [] => self.default_type(initialized.value),
+            ty => Ok(Some(self.read_scalar(types, ty)?)),
+        }
+    }
+
     fn read_scalar(&self, types: &mut Types, noted: &[Event]) -> Result<Scalar, Stop>
-        ensures { Grows types.old types.new }
+        ensures grows { Grows types.old types.new }
+        ensures written { IfOk result (IsDeclaredScalar self.now.text (environment self.now types.new) noted.now) }
     {
         match self.type_noted(types, noted)?.as_scalar() {
             Some(scalar) => Ok(scalar),
@@ -126,7 +141,9 @@ impl<'t> Scope<'t> {
     }
 
     /// The type of an override that follows from its value; None if that isn't read here.
-    fn default_type(&self, value: &[Event]) -> Result<Option<Scalar>, Stop> {
+    fn default_type(&self, value: &[Event]) -> Result<Option<Scalar>, Stop>
+        ensures { IfOk result (λ ty. IfSome ty (IsOfValue self.now.text (meaning_of self.now) value.now)) }
+    {
         match self.value_noted(value) {
             Ok(found) => match type_of_value(found.value) {
                 Ok(ty) => Ok(ty),
@@ -139,7 +156,9 @@ impl<'t> Scope<'t> {
 }
 
 /// The type that an override has by its value. An AbstractInt becomes an `i32`, which may overflow.
-fn type_of_value(value: Value) -> Result<Option<Scalar>, Cause> {
+fn type_of_value(value: Value) -> Result<Option<Scalar>, Cause>
+    ensures { IfOk result (λ ty. ty ≡ type_of_value value) }
+{
     let Value::Known(constant) = value else {
         return Ok(None);
     };

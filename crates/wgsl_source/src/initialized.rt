@@ -1,6 +1,7 @@
 // What stands behind the name of a variable, an override or a constant.
 ghost use Rattle.std.specs.Prelude.{◌≡◌};
 ghost use Rattle.wgsl_source.specs.Declarations.{declared_type, initializer};
+ghost use Rattle.wgsl_source.specs.TextDeclarations.{default};
 
 use crate::declaration::Declaration;
 use crate::parts::{split_typed, without_last};
@@ -19,7 +20,8 @@ pub struct Initialized<'t> {
 impl<'t> Scope<'t> {
     /// The type and the value of a variable or an override.
     pub fn initialized(&self, declaration: &Declaration<'t>) -> Initialized<'t>
-        ensures { result.ty.now ≡ declared_type declaration.now.rest.now }
+        ensures ty { result.ty.now ≡ declared_type declaration.now.rest.now }
+        ensures value { result.value.now ≡ default declaration.now.rest.now }
     {
         let typed = self.typed(declaration);
         Initialized {

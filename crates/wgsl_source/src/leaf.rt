@@ -2,7 +2,7 @@
 ghost use Rattle.std.specs.Prelude.{◌≡◌, ◌⊎◌, ◌∷◌, IfOk, IfSome, Some, true};
 ghost use Rattle.wgsl_syntax.specs.Address.{IsSpace, default_access, may_say};
 ghost use Rattle.wgsl_syntax.specs.declared.rules.RuleSet.TheVariants.{Standard};
-ghost use Rattle.wgsl_source.specs.TemplateLists.{IsFlag, IsSampled, IsTexture, scalar_of};
+ghost use Rattle.wgsl_source.specs.TemplateLists.{AreParameters, IsFlag, IsSampled, IsTexture, scalar_of};
 ghost use Rattle.wgsl_source.specs.WrittenTypes.{meaning_of};
 ghost use Rattle.wgsl_source.specs.internal.Items.{HasAccess, NamesAccess, NamesFlag, NamesFormat};
 
@@ -28,19 +28,30 @@ impl<'t> Scope<'t> {
     ) -> Result<TextureType, Stop>
         ensures { IfOk result (IsTexture self.now.text (meaning_of self.now) texture parameters.now) }
     {
-        let parameters = match (texture.parameter_kind(), parameters) {
-            (TextureParameterKind::None, _) => return Err(name.stop(Cause::NeedlessList)),
-            (TextureParameterKind::Sampled, [sampled]) => {
-                TextureParameters::Sampled(self.sampled(*sampled)?)
-            }
-            (TextureParameterKind::Storage, [format, access]) => {
-                TextureParameters::Storage(self.format(*format)?, self.access(*access)?)
-            }
-            _ => return Err(name.stop(Cause::WrongParameterCount)),
-        };
+        let parameters = self.texture_parameters(name, texture.parameter_kind(), parameters)?;
         match texture.with(parameters) {
             Some(texture) => Ok(texture),
             None => Err(name.stop(Cause::WrongParameterCount)),
+        }
+    }
+
+    fn texture_parameters(
+        &self,
+        name: Item,
+        kind: TextureParameterKind,
+        parameters: &[Item],
+    ) -> Result<TextureParameters, Stop>
+        ensures { IfOk result (AreParameters self.now.text (meaning_of self.now) parameters.now) }
+    {
+        match (kind, parameters) {
+            (TextureParameterKind::None, _) => Err(name.stop(Cause::NeedlessList)),
+            (TextureParameterKind::Sampled, [sampled]) => {
+                Ok(TextureParameters::Sampled(self.sampled(*sampled)?))
+            }
+            (TextureParameterKind::Storage, [format, access]) => {
+                Ok(TextureParameters::Storage(self.format(*format)?, self.access(*access)?))
+            }
+            _ => Err(name.stop(Cause::WrongParameterCount)),
         }
     }
 
@@ -65,7 +76,7 @@ impl<'t> Scope<'t> {
     }
 
     fn format(&self, item: Item) -> Result<TexelFormat, Stop>
-        ensures { IfOk result (NamesFormat self.now.text item) }
+        ensures { IfOk result (NamesFormat self.now.text (meaning_of self.now) item) }
     {
         let word = self.enumerant(item, Expected::TexelFormat)?;
         match TexelFormat::named_by(RuleSet::Standard, word) {
@@ -82,7 +93,7 @@ impl<'t> Scope<'t> {
         rest: &[Item],
         name: Item,
     ) -> Result<AccessMode, Stop>
-        ensures said { IfOk result (HasAccess self.now.text space rest.now) }
+        ensures said { IfOk result (HasAccess self.now.text (meaning_of self.now) space rest.now) }
         ensures may_be_said { IfOk result (λ access. (access ≡ default_access space)
             ⊎ (may_say space access ≡ true)) }
     {
@@ -100,7 +111,7 @@ impl<'t> Scope<'t> {
         more: &[Item],
         name: Item,
     ) -> Result<AccessMode, Stop>
-        ensures said { IfOk result (HasAccess self.now.text space (item ∷ more.now)) }
+        ensures said { IfOk result (HasAccess self.now.text (meaning_of self.now) space (item ∷ more.now)) }
         ensures may_be_said { IfOk result (λ access. (access ≡ default_access space)
             ⊎ (may_say space access ≡ true)) }
     {
@@ -111,7 +122,7 @@ impl<'t> Scope<'t> {
     }
 
     fn said_access(&self, space: AddressSpace, item: Item) -> Result<AccessMode, Stop>
-        ensures named { IfOk result (NamesAccess self.now.text item) }
+        ensures named { IfOk result (NamesAccess self.now.text (meaning_of self.now) item) }
         ensures may_be_said { IfOk result (λ access. may_say space access ≡ true) }
     {
         let access = self.access(item)?;
@@ -123,7 +134,7 @@ impl<'t> Scope<'t> {
     }
 
     fn access(&self, item: Item) -> Result<AccessMode, Stop>
-        ensures { IfOk result (NamesAccess self.now.text item) }
+        ensures { IfOk result (NamesAccess self.now.text (meaning_of self.now) item) }
     {
         let name = self.enumerant(item, Expected::AccessMode)?;
         match AccessMode::from_str(name) {
@@ -134,7 +145,7 @@ impl<'t> Scope<'t> {
 
     /// The flag of a ray query or an acceleration structure.
     pub fn flag(&self, name: Item, parameters: &[Item]) -> Result<AccelerationStructureFlags, Stop>
-        ensures { IfOk result (IsFlag self.now.text parameters.now) }
+        ensures { IfOk result (IsFlag self.now.text (meaning_of self.now) parameters.now) }
     {
         match parameters {
             [item] => self.only_flag(*item),
@@ -143,7 +154,7 @@ impl<'t> Scope<'t> {
     }
 
     fn only_flag(&self, item: Item) -> Result<AccelerationStructureFlags, Stop>
-        ensures { IfOk result (NamesFlag self.now.text item) }
+        ensures { IfOk result (NamesFlag self.now.text (meaning_of self.now) item) }
     {
         let name = self.enumerant(item, Expected::Flag)?;
         match AccelerationStructureFlags::from_str(name) {

@@ -275,6 +275,7 @@ impl<'t> Scope<'t> {
     /// Takes the name of an enumerant. It is none if the module declares that name.
     pub fn enumerant(&self, item: Item, expected: Expected) -> Result<&'t str, Stop>
         ensures name { IfOk result (λ text. item.content ≡ Name) }
+        ensures undeclared { IfOk result (λ text. meaning_of self.now (word self.now.text.text.now item.token) ≡ None) }
         ensures text { IfOk result (λ text. text.now ≡ word self.now.text.text.now item.token) }
     {
         let word = self.text.word(item.token);

@@ -202,7 +202,7 @@ impl<'t> Scope<'t> {
     /// An address space.
     pub fn space(&self, types: &mut Types, item: Item) -> Result<AddressSpace, Stop>
         ensures grows { Grows types.old types.new }
-        ensures named { IfOk result (NamesSpace self.now.text item) }
+        ensures named { IfOk result (NamesSpace self.now.text (meaning_of self.now) item) }
     {
         let name = self.enumerant(item, Expected::AddressSpace)?;
         if name == "push_constant" && !self.extensions.naga {

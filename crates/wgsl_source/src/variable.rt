@@ -3,7 +3,7 @@ ghost use Rattle.std.specs.Prelude.{◌∷◌, IfOk};
 ghost use Rattle.wgsl_source.specs.Members.{Grows};
 ghost use Rattle.wgsl_source.specs.Qualifiers.{AreSaid, IsQualified};
 ghost use Rattle.wgsl_source.specs.TextDeclarations.{of_variables};
-ghost use Rattle.wgsl_source.specs.WrittenTypes.{HasType, environment};
+ghost use Rattle.wgsl_source.specs.WrittenTypes.{HasType, environment, meaning_of};
 ghost use Rattle.wgsl_source.specs.declared.types.Types.{Types as of_types};
 ghost use Rattle.wgsl_source.specs.internal.Items.{item_names};
 ghost use Rattle.wgsl_source.specs.internal.Others.{IsReadOf};
@@ -94,7 +94,7 @@ impl<'t> Scope<'t> {
         declaration: &Declaration<'t>,
     ) -> Result<(AddressSpace, AccessMode), Stop>
         ensures grows { Grows types.old types.new }
-        ensures qualified { IfOk result (λ q. IsQualified self.now.text declaration.now.list.now q.0 q.1) }
+        ensures qualified { IfOk result (λ q. IsQualified self.now.text (meaning_of self.now) declaration.now.list.now q.0 q.1) }
     {
         let mut items = Vec::new(self.alloc);
         self.read_all(types, &mut items, inner(declaration.list))?;
@@ -108,7 +108,7 @@ impl<'t> Scope<'t> {
         items: &[Item],
     ) -> Result<(AddressSpace, AccessMode), Stop>
         ensures grows { Grows types.old types.new }
-        ensures said { IfOk result (λ q. AreSaid self.now.text (item_names items.now) q.0 q.1) }
+        ensures said { IfOk result (λ q. AreSaid self.now.text (meaning_of self.now) (item_names items.now) q.0 q.1) }
     {
         match items {
             [] => Ok((AddressSpace::Handle, AccessMode::Read)),
@@ -123,7 +123,7 @@ impl<'t> Scope<'t> {
         rest: &[Item],
     ) -> Result<(AddressSpace, AccessMode), Stop>
         ensures grows { Grows types.old types.new }
-        ensures said { IfOk result (λ q. AreSaid self.now.text (item_names (first ∷ rest.now)) q.0 q.1) }
+        ensures said { IfOk result (λ q. AreSaid self.now.text (meaning_of self.now) (item_names (first ∷ rest.now)) q.0 q.1) }
     {
         let space = self.space(types, first)?;
         if space == AddressSpace::Function {

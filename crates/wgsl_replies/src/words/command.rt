@@ -1,5 +1,5 @@
 // What is answered to each command.
-#![tactic(auto, unfolding(crate::words::specs::Requests::request_from))]
+#![tactic(auto, unfolding(crate::specs::words::Requests::request_from))]
 
 ghost use Rattle.std.specs.Prelude.{◌≡◌, codes, option_and_then};
 ghost use Rattle.wgsl_calls.specs.Calls.{signature_of};
@@ -63,7 +63,7 @@ fn common(alloc: Global, words: &mut Words, text: &mut String) -> Read<TextKind>
 }
 
 /// `unary OP T`: the type of the expression, or why it has none.
-#[tactic(auto, unfolding(crate::words::specs::Requests::request_from, crate::words::specs::Names::unary_named))]
+#[tactic(auto, unfolding(crate::specs::words::Requests::request_from, crate::specs::words::Names::unary_named))]
 fn unary(alloc: Global, words: &mut Words, text: &mut String) -> Read<TextKind>
     ensures { Answers (request_from (codes "unary") words.old) text.old text.new result }
 {
@@ -76,7 +76,7 @@ fn unary(alloc: Global, words: &mut Words, text: &mut String) -> Read<TextKind>
 }
 
 /// `binary OP T U`: the type of the expression, or why it has none.
-#[tactic(auto, unfolding(crate::words::specs::Requests::request_from, crate::words::specs::Names::binary_named))]
+#[tactic(auto, unfolding(crate::specs::words::Requests::request_from, crate::specs::words::Names::binary_named))]
 fn binary(alloc: Global, words: &mut Words, text: &mut String) -> Read<TextKind>
     ensures { Answers (request_from (codes "binary") words.old) text.old text.new result }
 {
@@ -174,7 +174,7 @@ impl ReadCall<'_> {
 
 /// A name, a template, and the types of the arguments.
 #[inline(always)]
-#[tactic(auto, unfolding(crate::words::specs::Requests::callee))]
+#[tactic(auto, unfolding(crate::specs::words::Requests::callee))]
 fn read_call<'t>(alloc: Global, words: &mut Words<'t>) -> Read<ReadCall<'t>>
     ensures { Gives call_view (callee words.old) result }
 {

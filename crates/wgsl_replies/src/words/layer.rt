@@ -13,7 +13,7 @@ use wgsl_syntax::texture_name::{TextureParameterKind, TextureParameters, texture
 
 /// The layer that begins with this word; `None` if none does. It is not inlined, so that words are compared as numbers.
 #[inline(never)]
-#[tactic(auto, unfolding(crate::words::specs::Types::layer_named))]
+#[tactic(auto, unfolding(crate::specs::words::Types::layer_named))]
 pub fn read_layer(word: &str, words: &mut Words) -> Read<Option<Around>>
     ensures shorter { OnOk result (length words.new ≤ length words.old) }
     ensures read { Reads (λ layer. layer) (optional (layer_named word.now) words.old) result words.new }
@@ -44,7 +44,7 @@ pub fn read_layer(word: &str, words: &mut Words) -> Read<Option<Around>>
 }
 
 /// An address space, which may be `handle`, and an access mode.
-#[tactic(auto, unfolding(crate::words::specs::Types::memory_at, crate::words::specs::Names::space_named, crate::words::specs::Names::access_named))]
+#[tactic(auto, unfolding(crate::specs::words::Types::memory_at, crate::specs::words::Names::space_named, crate::specs::words::Names::access_named))]
 fn read_memory(words: &mut Words) -> Read<(AddressSpace, AccessMode)>
     ensures shorter { OnOk result (length words.new ≤ length words.old) }
     ensures read { Reads (λ memory. memory) (memory_at words.old) result words.new }
@@ -57,7 +57,7 @@ fn read_memory(words: &mut Words) -> Read<(AddressSpace, AccessMode)>
 
 /// A leaf type in words that is no scalar: one of naga's types for rays, a sampler or a texture.
 #[inline(never)]
-#[tactic(auto, unfolding(crate::words::specs::Types::leaf_from, crate::words::specs::Types::rays_named, crate::words::specs::Names::sampler_named))]
+#[tactic(auto, unfolding(crate::specs::words::Types::leaf_from, crate::specs::words::Types::rays_named, crate::specs::words::Names::sampler_named))]
 pub fn read_leaf(word: &str, words: &mut Words) -> Read<Type>
     ensures shorter { OnOk result (length words.new ≤ length words.old) }
     ensures read { Reads view (leaf_from word.now words.old) result words.new }
@@ -81,7 +81,7 @@ fn read_flag(words: &mut Words) -> Read<Option<AccelerationStructureFlags>>
 }
 
 /// The flag of this name, or none for `-`.
-#[tactic(auto, unfolding(crate::words::specs::Names::flag_named, crate::words::specs::Names::some_flag_named))]
+#[tactic(auto, unfolding(crate::specs::words::Names::flag_named, crate::specs::words::Names::some_flag_named))]
 fn flag(word: &str) -> Option<Option<AccelerationStructureFlags>>
     ensures { result ≡ names.flag_named word.now }
 {
@@ -92,7 +92,7 @@ fn flag(word: &str) -> Option<Option<AccelerationStructureFlags>>
 }
 
 /// A texture: its name, and its sampled type, or its texel format and access mode.
-#[tactic(auto, unfolding(crate::words::specs::Types::texture_from, crate::words::specs::Names::texture_named))]
+#[tactic(auto, unfolding(crate::specs::words::Types::texture_from, crate::specs::words::Names::texture_named))]
 fn read_texture(name: &str, words: &mut Words) -> Read<TextureType>
     ensures shorter { OnOk result (length words.new ≤ length words.old) }
     ensures read { Reads (λ texture. texture) (texture_from name.now words.old) result words.new }
@@ -103,7 +103,7 @@ fn read_texture(name: &str, words: &mut Words) -> Read<TextureType>
 }
 
 /// The parameters of a texture, of which the kind is known.
-#[tactic(auto, unfolding(crate::words::specs::Types::parameters_at, crate::words::specs::Names::sampled_named, crate::words::specs::Names::texel_named, crate::words::specs::Names::access_named))]
+#[tactic(auto, unfolding(crate::specs::words::Types::parameters_at, crate::specs::words::Names::sampled_named, crate::specs::words::Names::texel_named, crate::specs::words::Names::access_named))]
 fn read_parameters(kind: TextureParameterKind, words: &mut Words) -> Read<TextureParameters>
     ensures shorter { OnOk result (length words.new ≤ length words.old) }
     ensures read { Reads (λ parameters. parameters) (parameters_at kind words.old) result words.new }

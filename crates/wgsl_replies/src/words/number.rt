@@ -14,7 +14,7 @@ pub fn begins_with_plus(word: &str) -> bool
     !bytes.is_empty() && bytes[0] == b'+'
 }
 
-#[tactic(auto, using(crate::proofs::Numbers::plus_is_none, crate::proofs::Numbers::parsed), unfolding(crate::words::specs::Names::small))]
+#[tactic(auto, using(crate::proofs::Numbers::plus_is_none, crate::proofs::Numbers::parsed), unfolding(crate::specs::words::Names::small))]
 pub fn small(word: &str) -> Option<u8>
     ensures { result ≡ spec.small word.now }
 {
@@ -25,7 +25,7 @@ pub fn small(word: &str) -> Option<u8>
 }
 
 /// A number of at most 32 bits.
-#[tactic(auto, using(crate::proofs::Numbers::plus_is_none, crate::proofs::Numbers::parsed), unfolding(crate::words::specs::Names::medium))]
+#[tactic(auto, using(crate::proofs::Numbers::plus_is_none, crate::proofs::Numbers::parsed), unfolding(crate::specs::words::Names::medium))]
 pub fn medium(word: &str) -> Option<u32>
     ensures { result ≡ spec.medium word.now }
 {
@@ -36,7 +36,7 @@ pub fn medium(word: &str) -> Option<u32>
 }
 
 /// A number of at most 64 bits.
-#[tactic(auto, using(crate::proofs::Numbers::plus_is_none, crate::proofs::Numbers::parsed), unfolding(crate::words::specs::Names::long))]
+#[tactic(auto, using(crate::proofs::Numbers::plus_is_none, crate::proofs::Numbers::parsed), unfolding(crate::specs::words::Names::long))]
 pub fn long(word: &str) -> Option<u64>
     ensures { result ≡ spec.long word.now }
 {
@@ -46,7 +46,7 @@ pub fn long(word: &str) -> Option<u64>
     word.parse::<u64>().ok()
 }
 
-#[tactic(auto, unfolding(crate::words::specs::Names::count))]
+#[tactic(auto, unfolding(crate::specs::words::Names::count))]
 pub fn count(word: &str) -> Option<Option<usize>>
     ensures { result ≡ spec.count word.now }
 {
@@ -57,7 +57,7 @@ pub fn count(word: &str) -> Option<Option<usize>>
 }
 
 /// A number of elements. Where `usize` has 32 bits, larger ones can't be read.
-#[tactic(auto, using(crate::proofs::Numbers::plus_is_none, crate::proofs::Numbers::parsed), unfolding(crate::words::specs::Names::long))]
+#[tactic(auto, using(crate::proofs::Numbers::plus_is_none, crate::proofs::Numbers::parsed), unfolding(crate::specs::words::Names::long))]
 fn size(word: &str) -> Option<usize>
     ensures { result ≡ spec.long word.now }
 {
@@ -67,7 +67,7 @@ fn size(word: &str) -> Option<usize>
     word.parse::<usize>().ok()
 }
 
-#[tactic(auto, unfolding(crate::words::specs::Names::attribute))]
+#[tactic(auto, unfolding(crate::specs::words::Names::attribute))]
 pub fn attribute(word: &str) -> Option<Option<u32>>
     ensures { result ≡ spec.attribute word.now }
 {
@@ -78,7 +78,7 @@ pub fn attribute(word: &str) -> Option<Option<u32>>
 }
 
 /// A literal: `true`, `false`, or a number, with the suffix of its kind if it isn't abstract.
-#[tactic(auto, unfolding(crate::words::specs::Templates::literal))]
+#[tactic(auto, unfolding(crate::specs::words::Templates::literal))]
 pub fn literal(word: &str) -> Option<LiteralInstance>
     ensures { option_map literal_view result ≡ templates.literal word.now }
 {
@@ -90,7 +90,7 @@ pub fn literal(word: &str) -> Option<LiteralInstance>
 }
 
 /// A number, with the suffix of its kind if it isn't abstract.
-#[tactic(auto, unfolding(crate::words::specs::Templates::number))]
+#[tactic(auto, unfolding(crate::specs::words::Templates::number))]
 fn number(word: &str) -> Option<LiteralInstance>
     ensures { option_map literal_view result ≡ templates.number word.now }
 {
@@ -103,7 +103,7 @@ fn number(word: &str) -> Option<LiteralInstance>
     }
 }
 
-#[tactic(auto, unfolding(crate::words::specs::Templates::short_number))]
+#[tactic(auto, unfolding(crate::specs::words::Templates::short_number))]
 fn short_number(word: &str) -> Option<LiteralInstance>
     ensures { option_map literal_view result ≡ templates.short_number word.now }
 {

@@ -26,7 +26,7 @@ pub fn read_type(alloc: Global, words: &mut Words) -> Read<Type>
 /// The type that begins with this word.
 #[cycle(reading)]
 #[inline(always)]
-#[tactic(auto, unfolding(crate::words::specs::Types::type_from, crate::words::specs::Names::scalar_named))]
+#[tactic(auto, unfolding(crate::specs::words::Types::type_from, crate::specs::words::Names::scalar_named))]
 pub fn read_type_at(alloc: Global, word: &str, words: &mut Words) -> Read<Type>
     ensures shorter { OnOk result (length words.new ≤ length words.old) }
     ensures read { Reads view (type_from type_at word.now words.old) result words.new }
@@ -43,7 +43,7 @@ pub fn read_type_at(alloc: Global, word: &str, words: &mut Words) -> Read<Type>
 /// The type that begins with this word, which is neither a scalar nor a struct.
 #[cycle(reading)]
 #[inline(never)]
-#[tactic(auto, unfolding(crate::words::specs::Types::other_from))]
+#[tactic(auto, unfolding(crate::specs::words::Types::other_from))]
 fn read_other(alloc: Global, word: &str, words: &mut Words) -> Read<Type>
     ensures shorter { OnOk result (length words.new ≤ length words.old) }
     ensures read { Reads view (other_from type_at word.now words.old) result words.new }
@@ -123,7 +123,7 @@ fn wrap(alloc: Global, layers: &[Around], innermost: Type) -> Made<Type>
 /// A struct: its name, the number of its members, and the members.
 #[cycle(reading)]
 #[inline(never)]
-#[tactic(auto, unfolding(crate::words::specs::Types::struct_at))]
+#[tactic(auto, unfolding(crate::specs::words::Types::struct_at))]
 fn read_struct(alloc: Global, words: &mut Words) -> Read<Type>
     ensures shorter { OnOk result (length words.new ≤ length words.old) }
     ensures read { Reads view (struct_at type_at words.old) result words.new }
@@ -139,7 +139,7 @@ fn read_struct(alloc: Global, words: &mut Words) -> Read<Type>
 
 /// A member: its name, its attributes size and align, and its type.
 #[cycle(reading)]
-#[tactic(auto, unfolding(crate::words::specs::Types::member_at))]
+#[tactic(auto, unfolding(crate::specs::words::Types::member_at))]
 fn read_member(alloc: Global, words: &mut Words) -> Read<StructMemberType>
     ensures shorter { OnOk result (length words.new < length words.old) }
     ensures read { Reads member_view (member_at type_at words.old) result words.new }

@@ -12,7 +12,7 @@ use wgsl_syntax::enumerant::Enumerant;
 
 /// The template of a call: `-` for none, or `<`, parameters and `>`.
 #[inline(always)]
-#[tactic(auto, unfolding(crate::words::specs::Templates::template_at))]
+#[tactic(auto, unfolding(crate::specs::words::Templates::template_at))]
 pub fn read_template(alloc: Global, words: &mut Words) -> Read<Option<Vec<TpltParam>>>
     ensures { Reads (option_map (λ ps. map parameter_view ps.items)) (template_at words.old) result words.new }
 {
@@ -39,7 +39,7 @@ fn read_parameters(alloc: Global, words: &mut Words) -> Read<Vec<TpltParam>>
 }
 
 /// A parameter: `t` and a type, `n` and a literal, or `e` and an enumerant.
-#[tactic(auto, unfolding(crate::words::specs::Templates::parameter_from))]
+#[tactic(auto, unfolding(crate::specs::words::Templates::parameter_from))]
 fn read_parameter(alloc: Global, kind: &str, words: &mut Words) -> Read<TpltParam>
     ensures shorter { OnOk result (length words.new ≤ length words.old) }
     ensures read { Reads parameter_view (parameter_from kind.now words.old) result words.new }
@@ -67,7 +67,7 @@ fn read_enumerant(words: &mut Words) -> Read<Enumerant>
 }
 
 /// The enumerant of this name, but for the address space `handle`.
-#[tactic(auto, unfolding(crate::words::specs::Templates::enumerant_named, crate::words::specs::Names::access_named, crate::words::specs::Names::space_named, crate::words::specs::Names::texel_named, crate::words::specs::Names::some_flag_named))]
+#[tactic(auto, unfolding(crate::specs::words::Templates::enumerant_named, crate::specs::words::Names::access_named, crate::specs::words::Names::space_named, crate::specs::words::Names::texel_named, crate::specs::words::Names::some_flag_named))]
 fn enumerant(word: &str) -> Option<Enumerant>
     ensures { result ≡ enumerant_named word.now }
 {

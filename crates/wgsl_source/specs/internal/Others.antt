@@ -40,7 +40,7 @@ pub record AddsKept {A : Type 0} (sort : Sort A) (IsFaulty : Type 0) (ds : List 
 -- what declarations declare is added; what isn't may be left out because of this fault
 pub record AddsOthers (s : Scope) (types : Types) (IsFaulty : Type 0) (ds : List Declaration) (old new : Others) : Type 0 where
   pub variables : AddsKept (of_variables s.text (environment s types)) IsFaulty ds old.variables.items new.variables.items
-  pub overrides : AddsKept (of_overrides s.text (meaning_of s)) IsFaulty ds old.overrides.items new.overrides.items
+  pub overrides : AddsKept (of_overrides s.text (environment s types)) IsFaulty ds old.overrides.items new.overrides.items
   pub entry_points : AddsKept (of_entry_points s.text (meaning_of s)) IsFaulty ds old.entry_points.items new.entry_points.items
   pub aliases : AddsKept (of_aliases s.text (environment s types)) IsFaulty ds old.aliases.items new.aliases.items
 

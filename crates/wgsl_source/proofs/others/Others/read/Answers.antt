@@ -27,7 +27,7 @@ returns-in-Override-clause-read c = λ readable later g meant.
     let is = c.in-Override.is in
     let kept = c.keep-in-Override.ensures in
     all_added s later r d kinds.Override a _ is refl
-    (one_added (of_overrides s.text (meaning_of s)) r c.read_override.result d a.overrides.items _ readable is c.read_override.ensures.read kept.added kept.same) refl refl
+    (one_added (of_overrides s.text (environment s later)) r c.read_override.result d a.overrides.items _ readable is (c.read_override.ensures.read later g) kept.added kept.same) refl refl
 
 pub returns-in-Function-clause-read : goal.returns-in-Function-clause-read
 returns-in-Function-clause-read c = λ readable later g meant.
@@ -59,7 +59,7 @@ returns-in_default-clause-read c = λ readable later g meant.
     let isnt = c.in_default in
     record {
       variables = adds_left (of_variables s.text (environment s later)) ⊥ d a.variables.items (left (of_other_kind (λ is. isnt.not-Variable (same_Some d.kind kinds.Variable is))));
-      overrides = adds_left (of_overrides s.text (meaning_of s)) ⊥ d a.overrides.items (left (of_other_kind (λ is. isnt.not-Override (same_Some d.kind kinds.Override is))));
+      overrides = adds_left (of_overrides s.text (environment s later)) ⊥ d a.overrides.items (left (of_other_kind (λ is. isnt.not-Override (same_Some d.kind kinds.Override is))));
       entry_points = adds_left (of_entry_points s.text (meaning_of s)) ⊥ d a.entry_points.items (left (of_other_kind (λ is. isnt.not-Function (same_Some d.kind kinds.Function is))));
       aliases = adds_left (of_aliases s.text (environment s later)) ⊥ d a.aliases.items (left (of_other_kind (λ is. isnt.not-Alias (same_Some d.kind kinds.Alias is))));
     }

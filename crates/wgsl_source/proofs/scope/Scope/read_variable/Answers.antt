@@ -17,5 +17,5 @@ returns-in_ok-check-in_default-clause-read c = λ later g.
       qualified = c.in_ok-space.ensures.qualified;
       written =
           still_type s.text s s types later (declared_type c.args.declaration.now.rest.now) ty (stays_same s s refl) g
-          (subst (λ es. HasType s.text (environment s types) es ty) c.initialized-initialized.ensures c.in_ok-ty-in_default.ensures.written);
+          (subst (λ es. HasType s.text (environment s types) es ty) c.initialized-initialized.ensures.ty c.in_ok-ty-in_default.ensures.written);
     }
