@@ -1,5 +1,5 @@
 -- Calls, one by one.
-use Rattle.std.proofs.Common.{◌≡◌, ◌∙◌, ◌+◌, ◌-◌, ◌^◌, ◌<◌, ◌≤◌, ℕ, zero, suc, List, [], ◌∷◌, Option, Some, None, ap, arith, drop, length, map, min, slice_get, subst}
+use Rattle.std.proofs.Common.{◌≡◌, ◌+◌, ◌-◌, ◌^◌, ◌<◌, ℕ, zero, suc, List, [], ◌∷◌, Option, Some, None, ap, arith, drop, length, map, min, slice_get, subst}
 use Rattle.wgsl_module.specs.Order.{call_at, calls_of}
 use Rattle.wgsl_module.specs.declared.typing.expressions.Doings.{Doings}
 use Rattle.wgsl_module.specs.declared.typing.fault.Place.{Place}

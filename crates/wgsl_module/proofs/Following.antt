@@ -1,7 +1,6 @@
 -- What is kept where declarations are followed: those that are open stand on the stack, each led to by the one below it.
-use Rattle.std.proofs.Common.{◌≡◌, ◌≢◌, ◌∙◌, ◌+◌, ◌<◌, ◌≤◌, ◌⊎◌, ℕ, zero, suc, List, [], ◌∷◌, ◌++◌, Bool, true, false, Contains, Option, Some, None, ap, arith, cond, inl, inr, length, length-set, refl, replicate, reverse, set, slice_get, subst, sym, true≢false}
-use Rattle.std.proofs.lemmas.List.{length-replicate}
-use Rattle.std.proofs.lemmas.List.Elements.{Contains-append_left, Contains-append_right, Contains-push, Contains-push_cases}
+use Rattle.std.proofs.Common.{◌≡◌, ◌≢◌, ◌∙◌, ◌<◌, ◌≤◌, ◌⊎◌, ℕ, zero, suc, List, [], ◌∷◌, ◌++◌, true, false, Contains, Option, Some, None, ap, arith, cond, inl, inr, length, length-set, refl, set, slice_get, subst, sym, true≢false}
+use Rattle.std.proofs.lemmas.List.Elements.{Contains-append_left, Contains-append_right, Contains-push}
 use Rattle.wgsl_module.specs.Order.{LeadsTo, itself, through}
 use Rattle.wgsl_module.specs.declared.walk.State.{State}
 use Rattle.wgsl_module.specs.declared.walk.State.TheVariants.{Done, Open, Unseen}

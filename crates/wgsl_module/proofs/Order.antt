@@ -1,12 +1,11 @@
 -- Declarations that are done, one behind the other.
 use Rattle.std.proofs.lemmas.List.Elements.{Contains-append_cases, Contains-append_left, Contains-append_right, Contains-push, Contains-push_cases}
-use Rattle.std.proofs.Common.{ap₂, ◌≡◌, ◌≢◌, ◌∙◌, ◌+◌, ◌<◌, ◌≤◌, ◌⊎◌, ℕ, zero, suc, List, [], ◌∷◌, ◌++◌, Bool, true, false, Contains, Option, Some, None, ap, arith, cond, get_or, inl, inr, length, nat_eq, refl, replicate, set, slice_get, subst, sym}
+use Rattle.std.proofs.Common.{ap₂, ◌≡◌, ◌≢◌, ◌∙◌, ◌+◌, ◌<◌, ◌≤◌, ◌⊎◌, ℕ, zero, suc, List, [], ◌∷◌, ◌++◌, Bool, true, false, Contains, Option, Some, ap, arith, cond, get_or, inl, inr, length, nat_eq, refl, replicate, set, slice_get, subst, sym}
 use Rattle.std.proofs.Math.Dec.{eqb-suc-suc, eqb-suc-zero, eqb-zero-suc}
-use Rattle.std.proofs.lemmas.List.{length-replicate}
 use Rattle.std.proofs.lemmas.List.Sums.{get_or-le-sum_by, sum_by-cons, sum_by_push}
 use Rattle.wgsl_module.specs.Order.{HasEach, times_in}
 use Rattle.wgsl_module.specs.declared.walk.State.{State}
-use Rattle.wgsl_module.specs.declared.walk.State.TheVariants.{Done, Open, Unseen}
+use Rattle.wgsl_module.specs.declared.walk.State.TheVariants.{Done, Unseen}
 
 abbrev pub is_done : Option State → Bool
 is_done (Some Done) = true

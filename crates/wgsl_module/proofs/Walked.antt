@@ -1,5 +1,5 @@
 -- One step of what follows declarations, and the end of those that are followed from a root.
-use Rattle.std.proofs.Common.{◌≡◌, ◌≢◌, ◌∙◌, ◌+◌, ◌<◌, ◌≤◌, ◌⊎◌, ℕ, zero, suc, List, [], ◌∷◌, ◌++◌, Bool, true, false, Contains, MatchOption, Option, Some, None, ap, arith, cond, inl, inr, length, map, refl, replicate, reverse, set, slice_get, subst, sum_by, sym, true≢false, length-set}
+use Rattle.std.proofs.Common.{◌≡◌, ◌≢◌, ◌∙◌, ◌+◌, ◌<◌, ◌≤◌, ℕ, zero, suc, List, [], ◌∷◌, ◌++◌, Bool, true, false, MatchOption, Option, Some, None, ap, arith, cond, inl, inr, length, map, refl, replicate, reverse, set, slice_get, subst, sum_by, sym, true≢false, length-set}
 use Rattle.std.proofs.lemmas.List.{map_push, reverse-append}
 use Rattle.std.proofs.lemmas.List.Elements.{Contains-append_left, Contains-push}
 use Rattle.std.proofs.lemmas.List.Sums.{sum_by_push}

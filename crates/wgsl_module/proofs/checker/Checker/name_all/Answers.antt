@@ -1,4 +1,4 @@
-use Rattle.std.proofs.Common.{◌≡◌, ◌∙◌, ◌<◌, ◌≤◌, ap, arith, length}
+use Rattle.std.proofs.Common.{◌≡◌, ◌∙◌, ◌<◌, ap, arith, length}
 use Rattle.wgsl_module.specs.Noted.{Reading}
 use Rattle.wgsl_module.proofs.Named.{all_have_names, one_more_named}
 use Rattle.wgsl_module.proofs.checker.Checker.name_all.Goals as goal

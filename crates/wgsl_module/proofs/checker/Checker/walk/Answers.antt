@@ -1,6 +1,6 @@
 use Rattle.std.proofs.Common.{◌∙◌, ◌++◌, [], ap, refl, sym}
 use Rattle.wgsl_module.specs.Order.{leads_from}
-use Rattle.wgsl_module.proofs.Walked.{all_behind, all_there, begun_root, goes_on, less_work, moves, none_of, root_done, taken_off}
+use Rattle.wgsl_module.proofs.Walked.{all_behind, begun_root, goes_on, less_work, moves, none_of, root_done, taken_off}
 use Rattle.wgsl_module.proofs.checker.Checker.walk.Goals as goal
 
 pub loop-index-init : goal.loop-index-init
