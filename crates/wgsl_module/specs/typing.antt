@@ -1,6 +1,7 @@
 pub mod Calls
 pub mod Counts
 pub mod Declarations
+pub mod Elements
 pub mod Faults
 pub mod Indices
 pub mod Known
@@ -20,4 +21,5 @@ pub mod StructNames
 pub mod Taken
 pub mod Templates
 pub mod Types
+pub mod Values
 pub mod Words

@@ -4,11 +4,11 @@ ghost use Rattle.wgsl_module.specs.Noted.{Keeps, state};
 use crate::attribute::Name;
 use crate::checker::{Checker, Interface};
 use crate::interface::ShaderStage;
-use crate::typing::fault::Rule;
+use crate::typing::fault::{Place, Rule};
 use crate::typing::known::Known;
 use crate::walk::Link;
 use std::alloc::AllocError;
-use std::collections::{BTreeMap, BTreeSet};
+use std::collections::BTreeMap;
 use wgsl_core::ty::Type;
 use wgsl_core::ty::form::Form;
 use wgsl_syntax::address::{AccessMode, AddressSpace};
@@ -64,15 +64,17 @@ impl<'t> Checker<'t> {
     fn check_reached(&mut self, stage: ShaderStage, root: usize) -> Result<(), AllocError>
         ensures { Keeps (state self.old) (state self.new) }
     {
-        let mut variables = BTreeSet::new(self.expressions.alloc);
+        let mut variables = BTreeMap::new(self.expressions.alloc);
         let mut wrong = Vec::new(self.expressions.alloc);
         let walk = self.walk(root, root.saturating_add(1), Link::Call)?;
         for index in &walk.order {
             let Some(Some(doing)) = self.doings.get(*index) else {
                 continue;
             };
-            for variable in &doing.variables {
-                variables.insert(*variable)?;
+            for (variable, place) in &doing.variables {
+                if !variables.contains_key(variable) {
+                    variables.insert(*variable, *place)?;
+                }
             }
             for (stages, place) in &doing.staged {
                 if !include(*stages, stage) {
@@ -99,16 +101,16 @@ impl<'t> Checker<'t> {
         &mut self,
         stage: ShaderStage,
         root: usize,
-        variables: &BTreeSet<usize>,
+        variables: &BTreeMap<usize, Place>,
     ) -> Result<(), AllocError>
         ensures { Keeps (state self.old) (state self.new) }
     {
         let mut places = BTreeMap::new(self.expressions.alloc);
-        for index in variables {
+        for (index, used) in variables {
             let named = self.named(*index).unwrap_or(0);
             if !include(self.stages_of(*index), stage) {
                 let message = self.unusable(stage, root)?;
-                self.tell_name(Rule::Stage, named, message.as_str())?;
+                self.tell_name(Rule::Stage, used.to, message.as_str())?;
             }
             if let Some(place) = self.bindings.get(&named).copied() {
                 if let Some(first) = places.insert(place, named)? {

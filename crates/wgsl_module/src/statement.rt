@@ -3,8 +3,6 @@ ghost use Rattle.std.specs.Prelude.{IfOk};
 ghost use Rattle.wgsl_module.specs.Noted.{AssignsIf, Keeps, Uses, state};
 
 use crate::checker::Checker;
-use crate::interface::component_of;
-use crate::typing::constant::wrong_right;
 use crate::typing::expression::shown;
 use crate::typing::fault::{Place, Rule};
 use crate::typing::known::{Outcome, Part, Typed};
@@ -13,13 +11,12 @@ use crate::typing::structs::behind;
 use crate::typing::value::Value;
 use std::alloc::AllocError;
 use wgsl_constants::constant::Constant;
-use wgsl_core::ty::Type;
 use wgsl_forms::assign::{assign_by, binary_operator, increment};
 use wgsl_forms::declare::discard;
 use wgsl_forms::flow::return_value;
 use wgsl_forms::refusal::Refusal;
 use wgsl_reader::kind::Kind;
-use wgsl_syntax::operator::{AssignmentOperator, BinaryOperator};
+use wgsl_syntax::operator::AssignmentOperator;
 use wgsl_syntax::overload::Stages;
 
 impl<'t> Checker<'t> {
@@ -83,27 +80,23 @@ impl<'t> Checker<'t> {
         match (assign_by(operator, &x.operand(), &shown(y)), sign) {
             (Ok(_), _) => {}
             (Err(Refusal::Binary(binary, _, _)), Some(count)) => {
-                return self.expressions.tell_overloads(binary, count, x, y);
+                return self.expressions.check_right(binary, count, x, (right, y));
             }
             (Err(refusal), _) => return self.refuse_writing(left.place, refusal),
         }
-        let (ty, binary) = (behind(&x.ty), binary_operator(operator));
+        let ty = behind(&x.ty);
         if !self.expressions.may_be_loaded(right.place, ty)? {
             return Ok(());
         }
-        let distance = Type::U32;
-        let scalar = match binary {
-            Some(BinaryOperator::ShiftLeft | BinaryOperator::ShiftRight) => &distance,
-            Some(_) => component_of(ty),
-            None => ty,
-        };
-        let value = self.expressions.argument_value(right, Some(scalar))?;
-        if let (Some(value), Some(binary)) = (value, binary) {
-            if let Some(message) = wrong_right(binary, Some(ty), value, Stage::Runtime) {
-                return self.tell(Rule::Value, left.place, message);
+        match (binary_operator(operator), sign) {
+            (Some(binary), Some(count)) => {
+                self.expressions.check_right(binary, count, x, (right, y))
+            }
+            _ => {
+                self.expressions.argument_value(right, Some(ty))?;
+                Ok(())
             }
         }
-        Ok(())
     }
 
     /// Says why nothing can be written to what has this place.

@@ -13,6 +13,7 @@ mod construct;
 pub mod count;
 pub mod declared;
 mod element;
+mod elements;
 pub mod expression;
 pub mod expressions;
 pub mod extension;

@@ -24,19 +24,28 @@ use wgsl_spelling::operator::binary_of;
 use wgsl_syntax::operator::BinaryOperator;
 
 impl<'t> Expressions<'t> {
-    /// Says that no overload of an operator takes what an assignment by it has.
-    pub fn tell_overloads(
+    /// Checks the right operand of an assignment by an operator. Says so if no overload takes the operands.
+    pub fn check_right(
         &mut self,
         operator: BinaryOperator,
         count: usize,
-        x: &Typed,
-        y: &Typed,
+        left: &Typed,
+        right: (&Part, &Typed),
     ) -> Result<(), AllocError>
         ensures stack { stack self.new ≡ stack self.old }
     {
-        let found = resolved_binary(self.alloc, operator, x, y)?;
-        self.taken(found, Place::last_of(count))?;
-        Ok(())
+        let place = Place::last_of(count);
+        let found = resolved_binary(self.alloc, operator, left, right.1)?;
+        let Some(call) = self.taken(found, place)? else {
+            return Ok(());
+        };
+        let value = self.argument_value(right.0, call.parameters.get(1))?;
+        let first = call.parameters.first();
+        let message = wrong_right(operator, first, value.unwrap_or(None), Stage::Runtime);
+        match message {
+            Some(message) => self.tell(Rule::Value, place, message),
+            None => Ok(()),
+        }
     }
 
     /// `x + y`

@@ -1,8 +1,14 @@
 // Values of operators and calls, where they are integers or `bool` (WGSL, "Early Evaluation Expressions").
 
+ghost use Rattle.std.specs.Prelude.{◌≡◌};
+ghost use Rattle.wgsl_constants.specs.Literals.{found};
+ghost use Rattle.wgsl_constants.specs.Values.{map_value};
+ghost use Rattle.wgsl_constants.specs.Vectors.{dot};
+ghost use Rattle.wgsl_module.specs.typing.Elements.{each, filled, of_two};
+
 use crate::typing::stage::Stage;
 use crate::typing::value::Value;
-use wgsl_constants::call::{Arguments, CallError, Function};
+use wgsl_constants::call::{Arguments, CallError, Function, integer};
 use wgsl_constants::constant::Constant;
 use wgsl_constants::integer::{Integer, IntegerError};
 use wgsl_constants::operator::negative;
@@ -38,6 +44,15 @@ fn of_constants(found: Result<Constant, CallError>) -> Computed {
     }
 }
 
+/// The same of vectors.
+fn of_vectors(found: Result<Vector, CallError>) -> Computed {
+    match found {
+        Ok(vector) => Ok(Some(Value::Several(vector))),
+        Err(CallError::Integer(error)) => Err(said(error)),
+        Err(CallError::NotInteger | CallError::WrongArgumentCount) => Ok(None),
+    }
+}
+
 /// The value of `-x`, `~x`, `!x`.
 pub fn unary_value(sign: Kind, value: Value) -> Computed {
     match (sign, value) {
@@ -60,11 +75,60 @@ fn negatives(vector: Vector) -> Result<Vector, IntegerError> {
     })
 }
 
-/// The value of a binary operator of scalars.
+/// The value of a binary operator of scalars, or of vectors component by component.
 pub fn binary_value(sign: Kind, x: Value, y: Value) -> Computed {
     match (x, y) {
         (Value::One(x), Value::One(y)) => of_constants(value::binary_value(sign, x, y)),
+        (Value::Several(x), Value::Several(y)) => of_vectors(each(sign, x, y)),
+        (Value::Several(x), Value::One(Constant::Integer(y))) => {
+            of_vectors(each(sign, x, filled(x, y)))
+        }
+        (Value::One(Constant::Integer(x)), Value::Several(y)) => {
+            of_vectors(each(sign, filled(y, x), y))
+        }
         _ => Ok(None),
+    }
+}
+
+/// The integers that an operator makes of the components of two vectors. It is `NotInteger` of vectors of other lengths, and of an
+/// operator that makes no integers.
+fn each(sign: Kind, x: Vector, y: Vector) -> Result<Vector, CallError>
+    ensures { found result ≡ each sign x y }
+{
+    match (x, y) {
+        (Vector::Two(a, b), Vector::Two(x, y)) => {
+            Ok(Vector::Two(of_two(sign, a, x)?, of_two(sign, b, y)?))
+        }
+        (Vector::Three(a, b, c), Vector::Three(x, y, z)) => Ok(Vector::Three(
+            of_two(sign, a, x)?,
+            of_two(sign, b, y)?,
+            of_two(sign, c, z)?,
+        )),
+        (Vector::Four(a, b, c, d), Vector::Four(x, y, z, w)) => Ok(Vector::Four(
+            of_two(sign, a, x)?,
+            of_two(sign, b, y)?,
+            of_two(sign, c, z)?,
+            of_two(sign, d, w)?,
+        )),
+        _ => Err(CallError::NotInteger),
+    }
+}
+
+/// The integer that an operator makes of two.
+fn of_two(sign: Kind, x: Integer, y: Integer) -> Result<Integer, CallError>
+    ensures { found result ≡ of_two sign x y }
+{
+    integer(value::binary_value(sign, Constant::Integer(x), Constant::Integer(y))?)
+}
+
+/// The vector as long as another with this integer for all components.
+fn filled(other: Vector, n: Integer) -> Vector
+    ensures { result ≡ filled n other }
+{
+    match other {
+        Vector::Two(_, _) => Vector::Two(n, n),
+        Vector::Three(_, _, _) => Vector::Three(n, n, n),
+        Vector::Four(_, _, _, _) => Vector::Four(n, n, n, n),
     }
 }
 
@@ -86,7 +150,7 @@ pub fn wrong_right(
 ) -> Option<&'static str> {
     match right? {
         Value::One(Constant::Integer(by)) => wrong_by(operator, left?, by, stage),
-        Value::One(_) => None,
+        Value::One(_) | Value::Elements(_) => None,
         Value::Several(vector) => {
             for which in &COMPONENTS {
                 if let Some(by) = vector.component(*which) {
@@ -125,6 +189,9 @@ fn wrong_by(
 
 /// The value of a call of a built-in function or of a constructor with these arguments.
 pub fn call_value(name: &str, template: Option<&Type>, values: &[Option<Value>]) -> Computed {
+    if let ("dot", [Some(Value::Several(x)), Some(Value::Several(y))]) = (name, values) {
+        return of_constants(product(*x, *y));
+    }
     let Some(arguments) = arguments_of(values) else {
         return Ok(None);
     };
@@ -145,12 +212,19 @@ pub fn call_value(name: &str, template: Option<&Type>, values: &[Option<Value>])
     }
 }
 
+/// The `dot` of two vectors.
+fn product(x: Vector, y: Vector) -> Result<Constant, CallError>
+    ensures { found result ≡ map_value Constant.Integer (dot x y) }
+{
+    Ok(Constant::Integer(x.dot(y)?))
+}
+
 fn arguments_of(values: &[Option<Value>]) -> Option<Arguments> {
     let mut arguments = Arguments::Zero;
     for value in values {
         match (*value)? {
             Value::One(constant) => arguments = arguments.with(constant)?,
-            Value::Several(_) => return None,
+            Value::Several(_) | Value::Elements(_) => return None,
         }
     }
     Some(arguments)

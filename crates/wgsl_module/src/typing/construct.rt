@@ -1,19 +1,21 @@
 // Constructors (WGSL, "Value Constructor Built-in Functions").
-ghost use Rattle.std.specs.Prelude.{◌≡◌, IfOk};
+ghost use Rattle.std.specs.Prelude.{◌≡◌, IfOk, true};
 ghost use Rattle.wgsl_core.specs.View.{view};
 ghost use Rattle.wgsl_forms.specs.Array.{typed_array};
 ghost use Rattle.wgsl_forms.specs.declared.form.Referent.TheVariants.{Whole};
+ghost use Rattle.wgsl_module.specs.typing.Elements.{HasTaken, IsKept, is_typed};
 ghost use Rattle.wgsl_module.specs.typing.Outcomes.{HasType, IsConstructed, IsFound, IsInferred, IsMade, OrFaulty, stage_of, types_of, vector_name};
 ghost use Rattle.wgsl_module.specs.typing.Stacks.{stack};
 
 use crate::typing::ask::{array_of, inferred_of, members_of};
 use crate::typing::call::Call;
 use crate::typing::count::has_override_count;
+use crate::typing::expression::with_value;
 use crate::typing::expressions::Expressions;
 use crate::typing::fault::{Place, Rule};
 use crate::typing::known::{Outcome, Part};
-use crate::typing::name::typed;
 use crate::typing::stage::Stage;
+use crate::typing::value::Value;
 use std::alloc::AllocError;
 use wgsl_core::ty::Type;
 use wgsl_core::ty::form::Form;
@@ -23,13 +25,16 @@ impl<'t> Expressions<'t> {
     /// `array(x, y)`
     pub fn infer_array(&mut self, call: &Call<'_>) -> Result<Outcome, AllocError>
         ensures answer { IfOk result (IsInferred call.now.arguments.now) }
+        ensures kept { IfOk result (IsKept call.now.arguments.now self.new.elements.items) }
         ensures stack { stack self.new ≡ stack self.old }
     {
         let found = inferred_of(self.alloc, call.arguments)?;
         if let Ok(ty) = &found {
             self.are_elements(ty, call.arguments)?;
         }
-        self.made(call.head, found, self.stage_of(call.arguments))
+        let stage = self.stage_of(call.arguments);
+        let value = self.keep(stage, call.arguments)?;
+        self.made(call.head, found, stage, value)
     }
 
     /// Tells of the values that are out of the range of an array's elements.
@@ -50,12 +55,15 @@ impl<'t> Expressions<'t> {
         place: Place,
         found: Result<Type, String>,
         stage: Stage,
+        value: Option<Value>,
     ) -> Result<Outcome, AllocError>
         ensures answer { IfOk result (IsFound stage found) }
+        ensures value { IfOk result (HasTaken (λ t. value)) }
+        ensures elements { IfOk result (λ o. is_typed o ≡ true → self.new.elements ≡ self.old.elements) }
         ensures stack { stack self.new ≡ stack self.old }
     {
         match found {
-            Ok(ty) => Ok(typed(ty, stage)),
+            Ok(ty) => Ok(with_value(ty, stage, value)),
             Err(message) => {
                 self.fault(Rule::Type, place, message)?;
                 Ok(Outcome::Faulty)
@@ -105,17 +113,21 @@ impl<'t> Expressions<'t> {
         call: &Call<'_>,
     ) -> Result<Outcome, AllocError>
         ensures answer { IfOk result (IsMade (stage_of call.now.arguments.now) (typed_array (view of.now) count (types_of call.now.arguments.now))) }
+        ensures kept { IfOk result (IsKept call.now.arguments.now self.new.elements.items) }
         ensures stack { stack self.new ≡ stack self.old }
     {
         for argument in call.arguments {
             self.argument_value(argument, Some(of))?;
         }
         let found = array_of(self.alloc, of, count, call.arguments)?;
-        self.made(call.head, found, self.stage_of(call.arguments))
+        let stage = self.stage_of(call.arguments);
+        let value = self.keep(stage, call.arguments)?;
+        self.made(call.head, found, stage, value)
     }
 
     fn construct_struct(&mut self, ty: &Type, call: &Call<'_>) -> Result<Outcome, AllocError>
         ensures answer { IfOk result (OrFaulty (HasType (view ty.now) (stage_of call.now.arguments.now) Whole)) }
+        ensures kept { IfOk result (IsKept call.now.arguments.now self.new.elements.items) }
         ensures stack { stack self.new ≡ stack self.old }
     {
         let found = match self.structs.declared(ty) {
@@ -127,7 +139,9 @@ impl<'t> Expressions<'t> {
         let outcome = match found {
             Ok(members) => {
                 self.values_fit(call.arguments, &members)?;
-                Ok(typed(ty.clone(self.alloc)?, self.stage_of(call.arguments)))
+                let stage = self.stage_of(call.arguments);
+                let value = self.keep(stage, call.arguments)?;
+                Ok(with_value(ty.clone(self.alloc)?, stage, value))
             }
             Err(message) => Err(message),
         };

@@ -1,10 +1,13 @@
 // Members and elements (WGSL, "Composite Value Decomposition Expressions").
 ghost use Rattle.std.specs.Prelude.{◌≡◌, IfOk, option_map, unwrap_or};
+ghost use Rattle.wgsl_constants.specs.Literals.{then};
 ghost use Rattle.wgsl_core.specs.View.{view};
 ghost use Rattle.wgsl_core.specs.internal.View.{members_view};
 ghost use Rattle.wgsl_forms.specs.Index.{index_answer};
 ghost use Rattle.wgsl_forms.specs.Member.{member_answer};
+ghost use Rattle.wgsl_module.specs.typing.Elements.{HasTaken, indexed, member_in};
 ghost use Rattle.wgsl_module.specs.typing.Known.{operand, typed_in};
+ghost use Rattle.wgsl_module.specs.typing.Values.{in_type};
 ghost use Rattle.wgsl_module.specs.typing.Stages.{is_const, later};
 ghost use Rattle.wgsl_module.specs.typing.Outcomes.{IsAnswer, IsFormed, IsFormedOrFaulty, IsMember};
 ghost use Rattle.wgsl_module.specs.typing.Members.{IsMemberOf, Member, only_member, type_with_member, with_struct};
@@ -21,7 +24,6 @@ use crate::typing::value::Value;
 use std::alloc::{AllocError, Global};
 use wgsl_constants::constant::Constant;
 use wgsl_constants::integer::Integer;
-use wgsl_constants::vector::{COMPONENTS, Component};
 use wgsl_core::ty::form::Form;
 use wgsl_core::ty::{StructMemberType, StructType, Type};
 use wgsl_forms::index::type_of_index;
@@ -59,15 +61,14 @@ impl<'t> Expressions<'t> {
         ensures answer { IfOk result (IsFormed x.now.stage (member_answer
             (record { of_type = type_with_member self.old.structs (word_in (context self.old) count) (view x.now.ty); is_constant = is_const x.now.stage })
             (word_in (context self.old) count))) }
+        ensures value { IfOk result (HasTaken (λ t.
+            then (member_in self.new.structs self.new.elements.items (word_in (context self.old) count) x.now) (in_type t))) }
         ensures stack { stack self.new ≡ stack self.old }
     {
         let name = self.word(count);
         match self.found_member(x, name)? {
             Ok(mut made) => {
-                made.value = match x.value {
-                    Some(value) => component(value, name),
-                    None => None,
-                };
+                made.value = self.value_of_member(x, name, &made.ty);
                 Ok(Outcome::Typed(made))
             }
             Err(message) => {
@@ -145,6 +146,7 @@ impl<'t> Expressions<'t> {
         at: Place,
     ) -> Result<Outcome, AllocError>
         ensures answer { IfOk result (IsFormedOrFaulty (later x.now.stage i.now.stage) (index_answer (operand x.now) (operand i.now))) }
+        ensures value { IfOk result (HasTaken (indexed self.new.elements.items x.now.value i.now.value)) }
         ensures stack { stack self.new ≡ stack self.old }
     {
         let stage = x.stage.later(i.stage);
@@ -156,7 +158,7 @@ impl<'t> Expressions<'t> {
                     self.tell(Rule::Value, at, "this index is out of bounds")?;
                     return Ok(Outcome::Faulty);
                 }
-                made.value = component_at(x.value, integer.value());
+                made.value = self.value_of_element(x.value, integer.value(), &made.ty);
                 Ok(Outcome::Typed(made))
             }
             (outcome, _) => Ok(outcome),
@@ -212,22 +214,4 @@ fn is_in_bounds(ty: &Type, index: Integer) -> bool {
         _ => i64::MAX,
     };
     0 <= index && index < count && index <= most
-}
-
-/// A component of a vector whose value is known.
-pub fn component(value: Value, name: &str) -> Option<Value> {
-    component_of(value, Component::named(name)?)
-}
-
-/// The component with this index of a vector whose value is known.
-fn component_at(value: Option<Value>, index: i64) -> Option<Value> {
-    let which = COMPONENTS.get(usize::try_from(index).ok()?)?;
-    component_of(value?, *which)
-}
-
-fn component_of(value: Value, which: Component) -> Option<Value> {
-    match value {
-        Value::Several(vector) => { Some(Value::One(Constant::Integer(vector.component(which)?))) }
-        Value::One(_) => None,
-    }
 }

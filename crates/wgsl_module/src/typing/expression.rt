@@ -2,6 +2,7 @@
 ghost use Rattle.std.specs.Prelude.{◌≡◌, [], ◌∷◌, IfOk, None, is_some, option_map, true};
 ghost use Rattle.wgsl_core.specs.View.{view};
 ghost use Rattle.wgsl_forms.specs.Views.{answer_view, form_view, given};
+ghost use Rattle.wgsl_module.specs.typing.Elements.{HasTaken, is_typed};
 ghost use Rattle.wgsl_module.specs.typing.Known.{typed_in};
 ghost use Rattle.wgsl_spelling.specs.Operators.{unary_of};
 ghost use Rattle.wgsl_standard.specs.Callees.{a_unary};
@@ -176,6 +177,7 @@ impl<'t> Expressions<'t> {
         stage: Stage,
     ) -> Result<Outcome, AllocError>
         ensures answer { IfOk result (IsFormed stage (answer_view form_view form.entry)) }
+        ensures value { IfOk result (HasTaken (λ t. None)) }
         ensures stack { stack self.new ≡ stack self.old }
     {
         match form {
@@ -198,6 +200,7 @@ impl<'t> Expressions<'t> {
         outcome: Result<Outcome, String>,
     ) -> Result<Outcome, AllocError>
         ensures answer { IfOk result (λ o. o ≡ or_faulty outcome) }
+        ensures elements { IfOk result (λ o. is_typed o ≡ true → self.new.elements ≡ self.old.elements) }
         ensures stack { stack self.new ≡ stack self.old }
     {
         match outcome {
@@ -288,7 +291,7 @@ impl<'t> Expressions<'t> {
         let (Some(value), Some(parameter)) = (part.value(), parameter) else {
             return Ok(Some(None));
         };
-        match value.converted(parameter) {
+        match self.converted(value, parameter) {
             Ok(value) => Ok(Some(value)),
             Err(_) if !self.is_evaluated() => Ok(Some(None)),
             Err(_) => {

@@ -14,6 +14,7 @@ use crate::typing::known::{Known, Outcome, Part};
 use crate::typing::meant::GUESSED;
 use crate::typing::scope::Locals;
 use crate::typing::structs::Structs;
+use crate::typing::value::Value;
 use std::alloc::{AllocError, Global};
 use std::collections::BTreeMap;
 use wgsl_core::ty::Type;
@@ -29,8 +30,8 @@ use wgsl_syntax::overload::Stages;
 pub struct Doings {
     /// The functions that it calls, by the index of the declaration, and where.
     pub calls: Vec<(usize, Place)>,
-    /// The variables and overrides of the module that it names.
-    pub variables: Vec<usize>,
+    /// The variables and overrides of the module that it names, and where.
+    pub variables: Vec<(usize, Place)>,
     /// What only some stages do, and where.
     pub staged: Vec<(Stages, Place)>,
 }
@@ -72,6 +73,8 @@ pub struct Expressions<'t> {
     /// The names that a `continue` may skip, by the index of the first and of the one behind the last.
     pub skipped: (usize, usize),
     pub items: Vec<Item>,
+    /// The values of the elements of arrays and of the members of structs that are constants, as far as they are computed.
+    pub elements: Vec<Vec<Option<Value>>>,
     /// The `&&` or `||` whose right operand is read and isn't evaluated, by the number of tokens up to it.
     pub unevaluated: Option<usize>,
     /// How many faults may yet be told with what a word may have meant.
@@ -112,6 +115,7 @@ impl<'t> Expressions<'t> {
             locals: Locals::none(alloc),
             skipped: (0, 0),
             items: Vec::new(alloc),
+            elements: Vec::new(alloc),
             unevaluated: None,
             guesses: GUESSED,
             doing: None,

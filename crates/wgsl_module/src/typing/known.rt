@@ -2,6 +2,7 @@
 ghost use Rattle.std.specs.Prelude.{◌≡◌, IfOk, None, false, option_map};
 ghost use Rattle.wgsl_core.specs.View.{view};
 ghost use Rattle.wgsl_forms.specs.Views.{given};
+ghost use Rattle.wgsl_module.specs.typing.Elements.{value_in};
 ghost use Rattle.wgsl_module.specs.typing.Known.{operand, operand_where, typed_in};
 ghost use Rattle.wgsl_module.specs.typing.Stages.{is_early};
 
@@ -132,7 +133,9 @@ impl Part {
     }
 
     /// Its value, if it is computed.
-    pub fn value(&self) -> Option<Value> {
+    pub fn value(&self) -> Option<Value>
+        ensures { result ≡ value_in self.now }
+    {
         self.typed()?.value
     }
 

@@ -212,7 +212,7 @@ impl<'t> Expressions<'t> {
                 let is_of_module = self.place_of_declaration(count).is_some();
                 if let Some(doing) = &mut self.doing {
                     if is_of_module {
-                        doing.variables.push(index)?;
+                        doing.variables.push((index, Place::last_of(count)))?;
                     }
                 }
                 Ok(Outcome::Typed(typed))

@@ -1,4 +1,8 @@
-// Values that are known before the shader runs: scalars, and vectors of integers.
+// Values that are known before the shader runs: scalars, vectors of integers, and of arrays and structs what they hold.
+
+ghost use Rattle.std.specs.Prelude.{◌≡◌};
+ghost use Rattle.wgsl_core.specs.View.{view};
+ghost use Rattle.wgsl_module.specs.typing.Values.{computed, constant_in, in_type, integer_in_type, vector_in};
 
 use wgsl_constants::constant::Constant;
 use wgsl_constants::integer::{Integer, IntegerError};
@@ -12,6 +16,8 @@ use wgsl_syntax::scalar::Scalar;
 pub enum Value {
     One(Constant),
     Several(Vector),
+    /// An array or a struct, by the index of its elements' or members' values among those that are kept.
+    Elements(usize),
 }
 
 impl Value {
@@ -23,15 +29,29 @@ impl Value {
         }
     }
 
-    /// The value in a type to which its own converts: `Ok(None)` if it isn't computed there.
-    pub fn converted(self, ty: &Type) -> Result<Option<Value>, OutOfRange> {
+    /// The value in a type to which its own converts: `Ok(None)` if it isn't computed there. Those of elements and members are
+    /// converted where they are taken.
+    pub fn converted(self, ty: &Type) -> Result<Option<Value>, OutOfRange>
+        ensures { computed result ≡ in_type (view ty.now) self }
+    {
         match (self, ty.form()) {
+            (Value::Elements(_), _) => Ok(Some(self)),
             (Value::One(one), Form::Scalar(scalar)) => match converted(one, scalar)? {
                 Some(one) => Ok(Some(Value::One(one))),
                 None => Ok(None),
             },
             (Value::Several(several), Form::Vector(_, of)) => each_converted(several, of.scalar()),
             _ => Ok(None),
+        }
+    }
+
+    /// The value in a type to which its own converts, if it is computed there.
+    pub fn in_type(self, ty: &Type) -> Option<Value>
+        ensures { result ≡ in_type (view ty.now) self }
+    {
+        match self.converted(ty) {
+            Ok(value) => value,
+            Err(_) => None,
         }
     }
 }
@@ -41,7 +61,9 @@ impl Value {
 pub struct OutOfRange;
 
 /// A scalar in a type to which its own converts.
-fn converted(one: Constant, to: Scalar) -> Result<Option<Constant>, OutOfRange> {
+fn converted(one: Constant, to: Scalar) -> Result<Option<Constant>, OutOfRange>
+    ensures { computed result ≡ constant_in to one }
+{
     match (one, to) {
         (Constant::Integer(integer), _) => converted_integer(integer, to),
         (Constant::Bool(_), Scalar::Bool) | (Constant::Float(_), _) => Ok(Some(one)),
@@ -50,7 +72,9 @@ fn converted(one: Constant, to: Scalar) -> Result<Option<Constant>, OutOfRange> 
 }
 
 /// An integer in a type to which its own converts.
-fn converted_integer(integer: Integer, to: Scalar) -> Result<Option<Constant>, OutOfRange> {
+fn converted_integer(integer: Integer, to: Scalar) -> Result<Option<Constant>, OutOfRange>
+    ensures { computed result ≡ integer_in_type to integer }
+{
     match (zero_of(to), integer) {
         (Some(zero), _) => match alike(integer, zero) {
             Ok(found) => Ok(Some(Constant::Integer(found))),
@@ -67,7 +91,9 @@ fn converted_integer(integer: Integer, to: Scalar) -> Result<Option<Constant>, O
 }
 
 /// A vector of integers in a type to which its own converts. One of floats isn't computed, but may be out of range.
-fn each_converted(several: Vector, to: Option<Scalar>) -> Result<Option<Value>, OutOfRange> {
+fn each_converted(several: Vector, to: Option<Scalar>) -> Result<Option<Value>, OutOfRange>
+    ensures { computed result ≡ vector_in to several }
+{
     let Some(to) = to else {
         return Ok(None);
     };
