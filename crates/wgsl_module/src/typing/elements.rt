@@ -107,7 +107,7 @@ impl<'t> Expressions<'t> {
     }
 }
 
-/// The values of expressions, as far as they are computed.
+/// The value of each expression; None if it isn't computed.
 fn values_of(alloc: Global, parts: &[Part]) -> Result<Vec<Option<Value>>, AllocError>
     ensures { IfOk result (λ values. values.items ≡ map value_in parts.now) }
 {

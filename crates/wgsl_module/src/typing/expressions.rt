@@ -73,7 +73,7 @@ pub struct Expressions<'t> {
     /// The names that a `continue` may skip, by the index of the first and of the one behind the last.
     pub skipped: (usize, usize),
     pub items: Vec<Item>,
-    /// The values of the elements of arrays and of the members of structs that are constants, as far as they are computed.
+    /// Of each array and struct that is a constant, the values of its elements or members; None if one isn't computed.
     pub elements: Vec<Vec<Option<Value>>>,
     /// The `&&` or `||` whose right operand is read and isn't evaluated, by the number of tokens up to it.
     pub unevaluated: Option<usize>,
