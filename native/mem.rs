@@ -94,7 +94,7 @@ impl StructType {
     /// [`min_layout`](StructType::min_layout) by either set of rules.
     #[cfg(feature = "standard")]
     pub fn min_layout_by(&self, rules: RuleSet) -> Option<StructLayout> {
-        always(crate::proved::wgsl_forms::layout::min_layout_by(Global, rules, self))
+        always(crate::proved::wgsl_standard::forms::layout::min_layout_by(Global, rules, self))
     }
 
     /// The offset of each member in bytes: no placement has a smaller one. None if [`layout`](StructType::layout) is None.

@@ -5,7 +5,6 @@ mod signature;
 mod uses;
 
 use crate::proved::wgsl_core::ty::show::ShownType;
-use crate::proved::wgsl_forms::form::Referent;
 use crate::proved::wgsl_module::module::{check as checked, Checked as Found};
 use crate::proved::wgsl_module::typing::count::with_counts;
 use crate::proved::wgsl_module::typing::fault::Place;
@@ -14,6 +13,7 @@ use crate::proved::wgsl_reader::token::Token;
 use crate::proved::wgsl_report::faults::explained;
 use crate::proved::wgsl_report::message::{write_misread, EXPLAINED};
 use crate::proved::wgsl_source::text::Text;
+use crate::proved::wgsl_standard::forms::form::Referent;
 use crate::proved::wgsl_syntax::rules::RuleSet;
 use crate::shim::{always, std::alloc::Global};
 use crate::ty::Type;

@@ -53,8 +53,8 @@ mod refusal;
 mod resolve;
 mod statements;
 
-pub use crate::proved::wgsl_forms::form::Referent;
 use crate::proved::wgsl_standard as proved;
+pub use crate::proved::wgsl_standard::forms::form::Referent;
 use crate::syntax::{BinaryOperator, UnaryOperator};
 use crate::ty::Type;
 use alloc::{string::String, vec::Vec};

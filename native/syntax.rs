@@ -42,7 +42,7 @@ impl AssignmentOperator {
     /// ```
     #[cfg(feature = "standard")]
     pub fn binary_operator(self) -> Option<BinaryOperator> {
-        crate::proved::wgsl_forms::assign::binary_operator(self)
+        crate::proved::wgsl_standard::forms::assign::binary_operator(self)
     }
 }
 

@@ -8,7 +8,7 @@ use std::path::{Path, PathBuf};
 /// The crates that users reach, by the feature of cargo that asks for them.
 const REACHED: [(&str, &str); 4] = [
     ("", "wgsl_calls"),
-    ("STANDARD", "wgsl_standard wgsl_forms"),
+    ("STANDARD", "wgsl_standard"),
     ("TEXT", "wgsl_reader wgsl_spelling wgsl_expressions wgsl_module wgsl_report wgsl_c"),
     ("STD", "wgsl_check wgsl"),
 ];

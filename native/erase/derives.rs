@@ -9,7 +9,7 @@ use std::collections::HashSet;
 const OF_DATA: [&str; 5] = ["Clone", "Debug", "PartialEq", "Eq", "Hash"];
 
 /// The crates whose types users see, and the types that they see of other crates.
-const SEEN: &str = "wgsl_syntax wgsl_core wgsl_calls wgsl_forms::Declaration wgsl_forms::Referent wgsl_reader::Event \
+const SEEN: &str = "wgsl_syntax wgsl_core wgsl_calls wgsl_standard::Declaration wgsl_standard::Referent wgsl_reader::Event \
     wgsl_reader::Kind wgsl_reader::Mark wgsl_reader::Misread wgsl_reader::Rule wgsl_reader::Token wgsl_source::Stage \
     wgsl_report::Place";
 

@@ -1,8 +1,8 @@
 //! Members, indexes, loads, `&` and `*`.
 
 use super::{Operand, Referent, Refusal};
-use crate::proved::wgsl_forms as proved;
-use crate::proved::wgsl_forms::form::{Form, FormType, UnbuiltType};
+use crate::proved::wgsl_standard::forms as proved;
+use crate::proved::wgsl_standard::forms::form::{Form, FormType, UnbuiltType};
 use crate::shim::{always, std::alloc::Global};
 use crate::ty::Type;
 

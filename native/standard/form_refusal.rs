@@ -1,6 +1,6 @@
 //! Forms that are refused.
 
-use crate::proved::wgsl_forms::{form::UnbuiltType, refusal::Refusal as Proved};
+use crate::proved::wgsl_standard::forms::{form::UnbuiltType, refusal::Refusal as Proved};
 use crate::shim::{always, std::alloc::Global};
 use crate::syntax::{AccessMode, AddressSpace, BinaryOperator, UnaryOperator};
 use crate::ty::Type;

@@ -1,8 +1,10 @@
 //! Lists of values that are refused, and the value to blame.
 
 use super::Refusal;
-use crate::proved::wgsl_forms as proved;
-use crate::proved::wgsl_forms::{expression::is_const_expression, lists::Taker, load::load_type};
+use crate::proved::wgsl_standard::forms as proved;
+use crate::proved::wgsl_standard::forms::{
+    expression::is_const_expression, lists::Taker, load::load_type,
+};
 use crate::proved::wgsl_standard::operand::Operand as Asked;
 use crate::ty::Type;
 use core::fmt;

@@ -2,7 +2,7 @@
 
 use super::Called;
 use crate::proved::wgsl_standard::{callee, signature::signatures};
-use crate::proved::wgsl_tables::names::{FUNCTIONS, TEMPLATE_FUNCTIONS};
+use crate::proved::wgsl_syntax::tables::names::{FUNCTIONS, TEMPLATE_FUNCTIONS};
 use crate::shim::{always, std::alloc::Global};
 use alloc::string::{String, ToString};
 use alloc::vec::Vec;

@@ -2,8 +2,8 @@
 
 use super::{with_operands, Called, NoOverload, Operand, Referent, Resolution};
 use crate::proved::wgsl_core::error::Fail;
-use crate::proved::wgsl_forms::expression::is_const_expression;
 use crate::proved::wgsl_standard::callee::{can_be_const_expression, overloads};
+use crate::proved::wgsl_standard::forms::expression::is_const_expression;
 use crate::proved::wgsl_standard::operand::Operand as Asked;
 use crate::proved::wgsl_standard::substitution::built;
 use crate::proved::wgsl_standard::{answer, resolved};

@@ -3,7 +3,7 @@
 use super::expressions::built_form;
 use super::resolve::made_of;
 use super::{built, with_operands, Misfit, Operand, Refusal};
-use crate::proved::{wgsl_forms as proved, wgsl_forms::lists::Taker};
+use crate::proved::{wgsl_standard::forms as proved, wgsl_standard::forms::lists::Taker};
 use crate::shim::{always, std::alloc::Global};
 use crate::syntax::{AccessMode, AddressSpace, AssignmentOperator};
 use crate::ty::Type;

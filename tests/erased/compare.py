@@ -10,7 +10,7 @@ LEXER = re.compile(
     r"""//[^\n]*|/\*.*?\*/|\s+|(b?"(?:[^"\\]|\\.)*"|b?'(?:[^'\\\n]|\\(?:x..|u\{[^}]*\}|.))'|'\w+|\w+|::|.)""", re.S)
 DATA = ["Clone", "Debug", "PartialEq", "Eq", "Hash"]
 PRELUDE = "# [ allow ( unused_imports ) ] use crate :: shim :: prelude :: * ;".split(" ")
-SEEN = """wgsl_syntax wgsl_core wgsl_calls wgsl_forms::Declaration wgsl_forms::Referent wgsl_reader::Event wgsl_reader::Kind
+SEEN = """wgsl_syntax wgsl_core wgsl_calls wgsl_standard::Declaration wgsl_standard::Referent wgsl_reader::Event wgsl_reader::Kind
 wgsl_reader::Mark wgsl_reader::Misread wgsl_reader::Rule wgsl_reader::Token wgsl_source::Stage wgsl_report::Place""".split()  # with all derives
 PREFIXED = {  # names that Rust has for something else, or not in older compilers, behind a `.` or behind their type
     ".": "push push_str push_reserved extend_from_slice insert reserve to_string cast_signed cast_unsigned is_multiple_of".split(),

@@ -138,7 +138,7 @@ def messages():
     """How messages of refusals begin: the texts in the sources of errors, of forms, and of constructors, calls and templates; those
     of an expression with a column."""
     paths = [os.path.join("wgsl_core", "src", "error", "fields.rt")]
-    paths += [os.path.join("wgsl_forms", "src", name) for name in ("refusal.rt", "array.rt")]
+    paths += [os.path.join("wgsl_standard", "src", "forms", name) for name in ("refusal.rt", "array.rt")]
     paths.append(os.path.join("wgsl_calls", "src", "**", "*.rt"))
     texts = ["no overload of ", "nothing has the name ", "`", "column "]
     for path in (path for each in paths for path in glob.glob(os.path.join(TOP, "crates", each), recursive=True)):

@@ -5,7 +5,7 @@ from collections import Counter
 from overloads.signatures import candidates, name_of
 from programs import read
 
-TEXEL_FORMATS, NAMES = "crates/wgsl_syntax/src/texel.rt", "crates/wgsl_tables/src/names.rt"
+TEXEL_FORMATS, NAMES = "crates/wgsl_syntax/src/texel.rt", "crates/wgsl_syntax/src/tables/names.rt"
 SIGNATURES, BUILT_INS = "tests/overloads/wgsl.txt", "tests/lines/built_ins.txt"
 
 # naga's name of a texel format, and WGSL's.

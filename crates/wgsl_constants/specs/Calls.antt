@@ -4,6 +4,8 @@ use Rattle.std.specs.Prelude.{ℕ, ◌-◌, ◌^◌, ℤ, pos, negsuc, List, [],
 use Rattle.std.specs.Result.{result_unwrap_or}
 use Rattle.std.specs.Int.{w32, cast_signed, cast_unsigned}
 use Rattle.wgsl_syntax.specs.Names.{named}
+use Rattle.wgsl_syntax.specs.declared.scalar.Scalar.{Scalar}
+use Rattle.wgsl_syntax.specs.declared.scalar.Scalar.TheVariants as scalars
 use Rattle.wgsl_constants.specs.declared.integer.Integer.{Integer}
 use Rattle.wgsl_constants.specs.declared.integer.Integer.TheVariants.{Abstract, I32, U32}
 use Rattle.wgsl_constants.specs.declared.integer.IntegerError.{IntegerError}
@@ -18,9 +20,10 @@ use Rattle.wgsl_constants.specs.declared.call.Function.TheVariants as f
 use Rattle.wgsl_constants.specs.Answers.{map_ok, then_ok}
 use Rattle.wgsl_constants.specs.declared.function.BitFunction.TheVariants as bit
 use Rattle.wgsl_constants.specs.Conversions.{i32_of, number, u32_of}
+use Rattle.wgsl_constants.specs.Values.{complement_of, left_shift, negative, right_shift, value}
 use Rattle.wgsl_constants.specs.Functions.{absolute, bits_of, clamped, extracted, greatest, inserted, leading_bit, least, of_bits, of_pair, selected, sign, signed_of}
 
--- the functions by their names; `bitcast` has its type in a list behind its name
+-- the functions by their names; `bitcast` has its type in a list behind its name, and operators have none
 abbrev pub function_names : List (Function × List ℕ)
 function_names =
     (f.U32, codes "u32") ∷ (f.I32, codes "i32") ∷ (f.Abs, codes "abs") ∷ (f.Sign, codes "sign") ∷ (f.Min, codes "min") ∷
@@ -33,6 +36,20 @@ function_names =
 -- the function with this name
 abbrev pub function_named : List ℕ → Option Function
 function_named name = named function_names name
+
+-- the function that converts to a scalar type
+abbrev pub conversion : Scalar → Option Function
+conversion scalars.U32 = Some f.U32
+conversion scalars.I32 = Some f.I32
+conversion scalars.F32 = Some f.F32
+conversion scalars.F16 = Some f.F16
+conversion other = None
+
+-- `bitcast<u32>`, `bitcast<i32>`
+abbrev pub bitcast : Scalar → Option Function
+bitcast scalars.U32 = Some f.BitcastU32
+bitcast scalars.I32 = Some f.BitcastI32
+bitcast other = None
 
 -- one argument more, of at most four
 abbrev pub with_argument : Constant → Arguments → Option Arguments
@@ -103,6 +120,8 @@ integer_of f.U32 a = map_ok U32 (to_u32 a)
 integer_of f.I32 a = map_ok I32 (to_i32 a)
 integer_of f.BitcastU32 a = map_ok U32 (of_integer bits_of a)
 integer_of f.BitcastI32 a = map_ok I32 (of_integer signed_of a)
+integer_of f.Negation a = of_integer negative a
+integer_of f.Complement a = map_ok complement_of (integer a)
 integer_of f.Abs a = of_integer absolute a
 integer_of f.Sign a = of_integer sign a
 integer_of f.FirstLeadingBit a = of_integer leading_bit a
@@ -117,6 +136,9 @@ of_one f.Any a = map_ok c.Bool (test a)
 of_one f a = map_ok c.Integer (integer_of f a)
 
 abbrev pub of_two : Function → Constant → Constant → Result Integer CallError
+of_two (f.Operator op) a b = of_integers (value op) a b
+of_two f.ShiftLeft a b = of_integers left_shift a b
+of_two f.ShiftRight a b = of_integers right_shift a b
 of_two f.Min a b = of_integers (of_pair least) a b
 of_two f.Max a b = of_integers (of_pair greatest) a b
 of_two other a b = Err error.WrongArgumentCount

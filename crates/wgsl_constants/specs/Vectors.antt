@@ -1,5 +1,5 @@
 -- Vectors of integers, and their components (WGSL, "Value Constructor Built-in Functions", "Vector Access Expression").
-use Rattle.std.specs.Prelude.{ℕ, pos, List, [], ◌∷◌, false, Option, Some, None, Result, Ok, Err, codes}
+use Rattle.std.specs.Prelude.{ℕ, ℤ, pos, negsuc, List, [], ◌∷◌, false, Option, Some, None, Result, Ok, Err, codes, slice_get}
 use Rattle.wgsl_syntax.specs.Names.{named}
 use Rattle.wgsl_syntax.specs.declared.scalar.Scalar.{Scalar}
 use Rattle.wgsl_syntax.specs.declared.scalar.Scalar.TheVariants as scalars
@@ -10,6 +10,9 @@ use Rattle.wgsl_constants.specs.declared.call.Arguments.{Arguments}
 use Rattle.wgsl_constants.specs.declared.call.Arguments.TheVariants.{Zero, One, Two, Three, Four}
 use Rattle.wgsl_constants.specs.declared.call.CallError.{CallError}
 use Rattle.wgsl_constants.specs.declared.call.CallError.TheVariants as error
+use Rattle.wgsl_constants.specs.declared.call.Function.{Function}
+use Rattle.wgsl_constants.specs.declared.call.Function.TheVariants as f
+use Rattle.wgsl_constants.specs.declared.constant.Constant.TheVariants as c
 use Rattle.wgsl_constants.specs.declared.vector.Component.{Component}
 use Rattle.wgsl_constants.specs.declared.vector.Component.TheVariants.{First, Second, Third, Fourth}
 use Rattle.wgsl_constants.specs.declared.vector.Size.{Size}
@@ -17,10 +20,10 @@ use Rattle.wgsl_constants.specs.declared.vector.Size.TheVariants as size
 use Rattle.wgsl_constants.specs.declared.vector.Vector.{Vector}
 use Rattle.wgsl_constants.specs.declared.vector.Vector.TheVariants as v
 use Rattle.wgsl_constants.specs.Answers.{map_ok, then_ok}
-use Rattle.wgsl_constants.specs.Literals.{found, then}
-use Rattle.wgsl_constants.specs.Values.{value}
+use Rattle.wgsl_constants.specs.Literals.{then}
+use Rattle.wgsl_constants.specs.Values.{map_value}
 use Rattle.wgsl_constants.specs.declared.integer.IntegerOperator.TheVariants.{Addition, Multiplication}
-use Rattle.wgsl_constants.specs.Calls.{integer, of_integers}
+use Rattle.wgsl_constants.specs.Calls.{called, integer, of_integers, with_argument}
 use Rattle.wgsl_constants.specs.Functions.{of_pair, selected}
 
 -- `vec2` to `vec4`
@@ -95,15 +98,77 @@ component Third (v.Four x y z w) = Some z
 component Fourth (v.Four x y z w) = Some w
 component other few = None
 
-abbrev pub and_product : Integer → Integer → Integer → Option Integer
-and_product sum a x = then (found (value Multiplication a x)) (λ p. found (value Addition sum p))
+-- the components of the longest vectors, in order
+abbrev pub components : List Component
+components = First ∷ Second ∷ Third ∷ Fourth ∷ []
+
+-- `vec2(4, 1)[0]`
+abbrev pub element : ℤ → Vector → Option Integer
+element (pos n) x = then (slice_get components n) (λ which. component which x)
+element (negsuc n) x = None
+
+-- `vec2(4, 1).x`
+abbrev pub member : List ℕ → Vector → Option Integer
+member letter x = then (component_named letter) (λ which. component which x)
+
+-- `vec3(4, 1, 2).zx`: the components with these letters
+abbrev pub swizzle : List ℕ → Vector → Option Vector
+swizzle (p ∷ q ∷ []) x = then (member (p ∷ []) x) (λ a. map_value (v.Two a) (member (q ∷ []) x))
+swizzle (p ∷ q ∷ r ∷ []) x =
+    then (member (p ∷ []) x) (λ a. then (member (q ∷ []) x) (λ b. map_value (v.Three a b) (member (r ∷ []) x)))
+swizzle (p ∷ q ∷ r ∷ s ∷ []) x =
+    then (member (p ∷ []) x) (λ a. then (member (q ∷ []) x) (λ b.
+    then (member (r ∷ []) x) (λ c. map_value (v.Four a b c) (member (s ∷ []) x))))
+swizzle letters x = None
+
+-- the arguments with the components of a vector behind them
+abbrev pub with_two : Integer → Integer → Arguments → Option Arguments
+with_two a b given = then (with_argument (c.Integer a) given) (with_argument (c.Integer b))
+
+abbrev pub with_components : Vector → Arguments → Option Arguments
+with_components (v.Two a b) given = with_two a b given
+with_components (v.Three x y z) given = then (with_two x y given) (with_argument (c.Integer z))
+with_components (v.Four x y z w) given = then (with_two x y given) (with_two z w)
+
+-- the integer that a function makes of one, or of two
+abbrev pub made_of_one : Function → Integer → Result Integer CallError
+made_of_one f a = then_ok (called f (One (c.Integer a))) integer
+
+abbrev pub made_of_two : Function → Integer → Integer → Result Integer CallError
+made_of_two f a b = then_ok (called f (Two (c.Integer a) (c.Integer b))) integer
+
+-- `abs(vec2(1, -2))`, component by component
+abbrev pub each : Function → Vector → Result Vector CallError
+each f (v.Two x y) = then_ok (made_of_one f x) (λ p. map_ok (v.Two p) (made_of_one f y))
+each f (v.Three x y z) = then_ok (made_of_one f x) (λ p. then_ok (made_of_one f y) (λ q. map_ok (v.Three p q) (made_of_one f z)))
+each f (v.Four x y z w) =
+    then_ok (made_of_one f x) (λ p. then_ok (made_of_one f y) (λ q.
+    then_ok (made_of_one f z) (λ r. map_ok (v.Four p q r) (made_of_one f w))))
+
+-- `vec2(1, 2) + vec2(3, 4)`
+abbrev pub each_of_two : Function → Vector → Vector → Result Vector CallError
+each_of_two f (v.Two a b) (v.Two x y) = then_ok (made_of_two f a x) (λ p. map_ok (v.Two p) (made_of_two f b y))
+each_of_two f (v.Three a b c) (v.Three x y z) =
+    then_ok (made_of_two f a x) (λ p. then_ok (made_of_two f b y) (λ q. map_ok (v.Three p q) (made_of_two f c z)))
+each_of_two f (v.Four a b c d) (v.Four x y z w) =
+    then_ok (made_of_two f a x) (λ p. then_ok (made_of_two f b y) (λ q.
+    then_ok (made_of_two f c z) (λ r. map_ok (v.Four p q r) (made_of_two f d w))))
+each_of_two f other longer = Err error.NotInteger
+
+-- the `2` of `vec3(1, 2, 3) + 2`, as long as the vector
+abbrev pub filled : Integer → Vector → Vector
+filled n (v.Two a b) = v.Two n n
+filled n (v.Three a b c) = v.Three n n n
+filled n (v.Four a b c d) = v.Four n n n n
+
+abbrev pub sum : Integer → Integer → Result Integer CallError
+sum a b = made_of_two (f.Operator Addition) a b
+
+abbrev pub sum_of : Vector → Result Integer CallError
+sum_of (v.Two x y) = sum x y
+sum_of (v.Three x y z) = then_ok (sum x y) (λ s. sum s z)
+sum_of (v.Four x y z w) = then_ok (sum x y) (λ s. then_ok (sum s z) (λ t. sum t w))
 
 -- `dot(vec2(1, 2), vec2(3, 4))` is 11
-abbrev pub dot_two : Integer → Integer → Integer → Integer → Option Integer
-dot_two a b x y = then (found (value Multiplication a x)) (λ s. and_product s b y)
-
-abbrev pub dot : Vector → Vector → Option Integer
-dot (v.Two a b) (v.Two x y) = dot_two a b x y
-dot (v.Three a b c) (v.Three x y z) = then (dot_two a b x y) (λ s. and_product s c z)
-dot (v.Four a b c d) (v.Four x y z w) = then (dot_two a b x y) (λ s. then (and_product s c z) (λ s. and_product s d w))
-dot other shorter = None
+abbrev pub dot : Vector → Vector → Result Integer CallError
+dot x y = then_ok (each_of_two (f.Operator Multiplication) x y) sum_of

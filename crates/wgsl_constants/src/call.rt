@@ -1,19 +1,25 @@
 // Calls of functions whose values are known at compile time (WGSL, "Value Constructor Built-in Functions", "bitcast", "Logical
 // Built-in Functions", "Numeric Built-in Functions").
 ghost use Rattle.std.specs.Prelude.{◌≡◌};
-ghost use Rattle.wgsl_constants.specs.Calls.{called, function_named, integer, integer_of, of_four, of_none, of_one, of_three, of_two, test, to_float, to_i32, to_u32, with_argument};
+ghost use Rattle.wgsl_constants.specs.Calls.{bitcast, called, conversion, function_named, integer, integer_of, of_four, of_none, of_one, of_three, of_two, test, to_float, to_i32, to_u32, with_argument};
 
 use crate::constant::Constant;
 use crate::function::{
     BitFunction, absolute, bits_of, clamp, extract_bits, first_leading_bit, insert_bits, maximum,
     minimum, select, sign, signed_of,
 };
-use crate::integer::{Integer, IntegerError};
+use crate::integer::{Integer, IntegerError, IntegerOperator};
 use crate::operator;
+use wgsl_syntax::scalar::Scalar;
 
-/// A function whose values are known at compile time.
+/// A function or an operator whose values are known at compile time.
 #[derive(Clone, Copy)]
 pub enum Function {
+    Operator(IntegerOperator),
+    ShiftLeft,
+    ShiftRight,
+    Negation,
+    Complement,
     U32,
     I32,
     F32,
@@ -80,7 +86,7 @@ impl Arguments {
 }
 
 impl Function {
-    /// The function with this name. `bitcast` is none: its type stands in a list behind its name.
+    /// The function with this name. `bitcast` is none: its type stands in a list behind its name. Nor is an operator.
     pub fn named(name: &str) -> Option<Function>
         ensures { result ≡ function_named name.now }
     {
@@ -105,6 +111,30 @@ impl Function {
             "countTrailingZeros" => Some(Function::Bits(BitFunction::CountTrailingZeros)),
             "firstTrailingBit" => Some(Function::Bits(BitFunction::FirstTrailingBit)),
             "reverseBits" => Some(Function::Bits(BitFunction::ReverseBits)),
+            _ => None,
+        }
+    }
+
+    /// The function that converts to a scalar type.
+    pub fn conversion(scalar: Scalar) -> Option<Function>
+        ensures { result ≡ conversion scalar }
+    {
+        match scalar {
+            Scalar::U32 => Some(Function::U32),
+            Scalar::I32 => Some(Function::I32),
+            Scalar::F32 => Some(Function::F32),
+            Scalar::F16 => Some(Function::F16),
+            _ => None,
+        }
+    }
+
+    /// The function that takes bits as those of a scalar type.
+    pub fn bitcast(scalar: Scalar) -> Option<Function>
+        ensures { result ≡ bitcast scalar }
+    {
+        match scalar {
+            Scalar::U32 => Some(Function::BitcastU32),
+            Scalar::I32 => Some(Function::BitcastI32),
             _ => None,
         }
     }
@@ -153,6 +183,8 @@ impl Function {
             Function::I32 => Ok(Integer::I32(to_i32(a)?)),
             Function::BitcastU32 => Ok(Integer::U32(bits_of(integer(a)?)?)),
             Function::BitcastI32 => Ok(Integer::I32(signed_of(integer(a)?)?)),
+            Function::Negation => Ok(operator::negative(integer(a)?)?),
+            Function::Complement => Ok(operator::complement(integer(a)?)),
             Function::Abs => Ok(absolute(integer(a)?)?),
             Function::Sign => Ok(sign(integer(a)?)?),
             Function::FirstLeadingBit => Ok(first_leading_bit(integer(a)?)?),
@@ -165,6 +197,11 @@ impl Function {
         ensures { result ≡ of_two self a b }
     {
         match self {
+            Function::Operator(operator) => {
+                Ok(operator::apply(operator, integer(a)?, integer(b)?)?)
+            }
+            Function::ShiftLeft => Ok(operator::shift_left(integer(a)?, integer(b)?)?),
+            Function::ShiftRight => Ok(operator::shift_right(integer(a)?, integer(b)?)?),
             Function::Min => Ok(minimum(integer(a)?, integer(b)?)?),
             Function::Max => Ok(maximum(integer(a)?, integer(b)?)?),
             _ => Err(CallError::WrongArgumentCount),

@@ -1,14 +1,11 @@
 // Vectors of integers, and their components (WGSL, "Value Constructor Built-in Functions", "Vector Access Expression").
-ghost use Rattle.std.specs.Prelude.{◌≡◌, false};
-ghost use Rattle.wgsl_constants.specs.Literals.{found};
-ghost use Rattle.wgsl_constants.specs.Values.{value};
-ghost use Rattle.wgsl_constants.specs.Vectors.{alike, and_product, component, component_named, dot, four, like, same, size_named, three, two, vector_of, zero_of};
-ghost use Rattle.wgsl_constants.specs.declared.integer.IntegerOperator.TheVariants.{Addition, Multiplication};
+ghost use Rattle.std.specs.Prelude.{[], ◌≡◌, ◌∷◌, false};
+ghost use Rattle.wgsl_constants.specs.Vectors.{alike, component, component_named, dot, each, each_of_two, element, filled, four, like, made_of_one, made_of_two, member, same, size_named, sum, sum_of, swizzle, three, two, vector_of, with_components, with_two, zero_of};
 
-use crate::call::{Arguments, CallError, integer};
+use crate::call::{Arguments, CallError, Function, integer};
+use crate::constant::Constant;
 use crate::function::select;
 use crate::integer::{Integer, IntegerError, IntegerOperator};
-use crate::operator::apply;
 use wgsl_syntax::scalar::Scalar;
 
 /// The number of components of a vector.
@@ -71,6 +68,19 @@ impl Component {
             _ => None,
         }
     }
+
+    /// The same of one byte.
+    fn with_letter(letter: u8) -> Option<Component>
+        ensures { result ≡ component_named (letter ∷ []) }
+    {
+        match letter {
+            b'x' | b'r' => Some(Component::First),
+            b'y' | b'g' => Some(Component::Second),
+            b'z' | b'b' => Some(Component::Third),
+            b'w' | b'a' => Some(Component::Fourth),
+            _ => None,
+        }
+    }
 }
 
 impl Vector {
@@ -127,35 +137,156 @@ impl Vector {
         }
     }
 
-    /// `dot`: the sum of the products of the components. It is `NotInteger` of vectors of other lengths.
-    pub fn dot(self, other: Vector) -> Result<Integer, CallError>
-        ensures { found result ≡ dot self other }
+    /// The component at an index; None if there is none.
+    pub fn element(self, index: i64) -> Option<Integer>
+        ensures { result ≡ element index self }
+    {
+        self.component(*COMPONENTS.get(usize::try_from(index).ok()?)?)
+    }
+
+    /// The component with this letter; None if there is none.
+    pub fn member(self, letter: &str) -> Option<Integer>
+        ensures { result ≡ member letter.now self }
+    {
+        self.component(Component::named(letter)?)
+    }
+
+    fn at(self, letter: u8) -> Option<Integer>
+        ensures { result ≡ member (letter ∷ []) self }
+    {
+        self.component(Component::with_letter(letter)?)
+    }
+
+    /// The vector of the components with these letters, of which there are two to four.
+    pub fn swizzle(self, letters: &str) -> Option<Vector>
+        ensures { result ≡ swizzle letters.now self }
+    {
+        match letters.as_bytes() {
+            [p, q] => Some(Vector::Two(self.at(*p)?, self.at(*q)?)),
+            [p, q, r] => Some(Vector::Three(self.at(*p)?, self.at(*q)?, self.at(*r)?)),
+            [p, q, r, s] => Some(Vector::Four(
+                self.at(*p)?,
+                self.at(*q)?,
+                self.at(*r)?,
+                self.at(*s)?,
+            )),
+            _ => None,
+        }
+    }
+
+    /// The arguments with the components behind them; None if they are more than four.
+    pub fn behind(self, given: Arguments) -> Option<Arguments>
+        ensures { result ≡ with_components self given }
+    {
+        match self {
+            Vector::Two(a, b) => with_two(given, a, b),
+            Vector::Three(x, y, z) => with_two(given, x, y)?.with(Constant::Integer(z)),
+            Vector::Four(x, y, z, w) => with_two(with_two(given, x, y)?, z, w),
+        }
+    }
+
+    /// The integers that a function makes of the components. It is `NotInteger` of a function that makes no integers.
+    pub fn each(self, function: Function) -> Result<Vector, CallError>
+        ensures { result ≡ each function self }
+    {
+        match self {
+            Vector::Two(x, y) => {
+                Ok(Vector::Two(made_of_one(function, x)?, made_of_one(function, y)?))
+            }
+            Vector::Three(x, y, z) => Ok(Vector::Three(
+                made_of_one(function, x)?,
+                made_of_one(function, y)?,
+                made_of_one(function, z)?,
+            )),
+            Vector::Four(x, y, z, w) => Ok(Vector::Four(
+                made_of_one(function, x)?,
+                made_of_one(function, y)?,
+                made_of_one(function, z)?,
+                made_of_one(function, w)?,
+            )),
+        }
+    }
+
+    /// The integers that a function makes of the components of two vectors. It is `NotInteger` of vectors of other lengths too.
+    pub fn each_of_two(self, function: Function, other: Vector) -> Result<Vector, CallError>
+        ensures { result ≡ each_of_two function self other }
     {
         match (self, other) {
-            (Vector::Two(a, b), Vector::Two(x, y)) => and_product(product(a, x)?, b, y),
-            (Vector::Three(a, b, c), Vector::Three(x, y, z)) => {
-                and_product(and_product(product(a, x)?, b, y)?, c, z)
+            (Vector::Two(a, b), Vector::Two(x, y)) => {
+                Ok(Vector::Two(made_of_two(function, a, x)?, made_of_two(function, b, y)?))
             }
-            (Vector::Four(a, b, c, d), Vector::Four(x, y, z, w)) => {
-                let three = and_product(and_product(product(a, x)?, b, y)?, c, z)?;
-                and_product(three, d, w)
-            }
+            (Vector::Three(a, b, c), Vector::Three(x, y, z)) => Ok(Vector::Three(
+                made_of_two(function, a, x)?,
+                made_of_two(function, b, y)?,
+                made_of_two(function, c, z)?,
+            )),
+            (Vector::Four(a, b, c, d), Vector::Four(x, y, z, w)) => Ok(Vector::Four(
+                made_of_two(function, a, x)?,
+                made_of_two(function, b, y)?,
+                made_of_two(function, c, z)?,
+                made_of_two(function, d, w)?,
+            )),
             _ => Err(CallError::NotInteger),
+        }
+    }
+
+    /// The vector of the same length with one integer for all components.
+    pub fn filled(self, n: Integer) -> Vector
+        ensures { result ≡ filled n self }
+    {
+        match self {
+            Vector::Two(_, _) => Vector::Two(n, n),
+            Vector::Three(_, _, _) => Vector::Three(n, n, n),
+            Vector::Four(_, _, _, _) => Vector::Four(n, n, n, n),
+        }
+    }
+
+    /// `dot`: the sum of the products of the components. It is `NotInteger` of vectors of other lengths.
+    pub fn dot(self, other: Vector) -> Result<Integer, CallError>
+        ensures { result ≡ dot self other }
+    {
+        let products = self.each_of_two(
+            Function::Operator(IntegerOperator::Multiplication),
+            other,
+        )?;
+        products.sum()
+    }
+
+    fn sum(self) -> Result<Integer, CallError>
+        ensures { result ≡ sum_of self }
+    {
+        match self {
+            Vector::Two(x, y) => sum(x, y),
+            Vector::Three(x, y, z) => sum(sum(x, y)?, z),
+            Vector::Four(x, y, z, w) => sum(sum(sum(x, y)?, z)?, w),
         }
     }
 }
 
-fn product(a: Integer, b: Integer) -> Result<Integer, CallError>
-    ensures { found result ≡ found (value Multiplication a b) }
+fn sum(a: Integer, b: Integer) -> Result<Integer, CallError>
+    ensures { result ≡ sum a b }
 {
-    Ok(apply(IntegerOperator::Multiplication, a, b)?)
+    made_of_two(Function::Operator(IntegerOperator::Addition), a, b)
 }
 
-/// The sum with the product of two integers.
-fn and_product(sum: Integer, a: Integer, b: Integer) -> Result<Integer, CallError>
-    ensures { found result ≡ and_product sum a b }
+/// The integer that a function makes of one.
+fn made_of_one(function: Function, a: Integer) -> Result<Integer, CallError>
+    ensures { result ≡ made_of_one function a }
 {
-    Ok(apply(IntegerOperator::Addition, sum, product(a, b)?)?)
+    integer(function.apply(Arguments::One(Constant::Integer(a)))?)
+}
+
+/// The integer that a function makes of two.
+pub fn made_of_two(function: Function, a: Integer, b: Integer) -> Result<Integer, CallError>
+    ensures { result ≡ made_of_two function a b }
+{
+    integer(function.apply(Arguments::Two(Constant::Integer(a), Constant::Integer(b)))?)
+}
+
+fn with_two(given: Arguments, a: Integer, b: Integer) -> Option<Arguments>
+    ensures { result ≡ with_two a b given }
+{
+    given.with(Constant::Integer(a))?.with(Constant::Integer(b))
 }
 
 /// The vector with one integer for all components.

@@ -9,7 +9,7 @@ pub use Rattle.wgsl_expressions.specs.Source.{Declared, find, Scope}
 pub use Rattle.wgsl_expressions.specs.Steps.{asks_call, Becomes, EndsIf, Given, literal_of, Value, with_given}
 pub use Rattle.wgsl_expressions.specs.Views.{declared_view, Finds, head_view, items_view, scope_view, source_view, typed_view}
 pub use Rattle.wgsl_expressions.specs.declared.misread.Misread.{Misread}
-pub use Rattle.wgsl_forms.specs.Expressions.{Expression}
+pub use Rattle.wgsl_standard.specs.forms.Expressions.{Expression}
 pub use Rattle.wgsl_reader.specs.declared.kind.Kind.{Kind}
 pub use Rattle.wgsl_reader.specs.declared.kind.Kind.TheVariants.{End}
 pub use Rattle.wgsl_reader.specs.declared.read.Event.{Event}

@@ -5,7 +5,7 @@ use Rattle.wgsl_expressions.proofs.Common.{End, Event, an_expression, Request, T
 use Rattle.wgsl_expressions.proofs.Common.{is_constant, member_in, operand, outcome_by, part_in, result_of, result_of_call, type_of_answer, asked_behind}
 use Rattle.wgsl_expressions.proofs.Common.{operand_token, Declared, Scope, Becomes, EndsIf, Given, Value, literal_of, with_given, overloads_of, one_of_line}
 use Rattle.wgsl_expressions.proofs.Common.{one_reply_of, word}
-use Rattle.wgsl_forms.specs.Concrete.{has_abstract_type}
+use Rattle.wgsl_standard.specs.forms.Concrete.{has_abstract_type}
 use Rattle.wgsl_requests.specs.Requests.{index_of, member_of}
 use Rattle.wgsl_reader.proofs.OneOutcome.{one_outcome as one_reading}
 use Rattle.wgsl_reader.proofs.SomeOutcome.{some_outcome as some_reading}

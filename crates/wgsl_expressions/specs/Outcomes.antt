@@ -4,9 +4,9 @@ use Rattle.wgsl_expressions.specs.Prelude.{list_all, Operand, Parameter, WgslTyp
 use Rattle.wgsl_expressions.specs.Prelude.{is_const_expression, shown_type, behind, formed_from, is_memory, Whole, Component, Swizzle, function, Answers}
 use Rattle.wgsl_expressions.specs.Prelude.{WgslAnswer, a_fit, a_type_of, a_form_type, type_asked, WgslRequest, fit_of, form_of, answer_text}
 use Rattle.wgsl_syntax.specs.declared.operator.UnaryOperator.TheVariants.{AddressOf}
-use Rattle.wgsl_forms.specs.Index.{is_vector}
-use Rattle.wgsl_forms.specs.Member.{is_swizzle}
-use Rattle.wgsl_forms.specs.declared.form.Referent.{Referent}
+use Rattle.wgsl_standard.specs.forms.Index.{is_vector}
+use Rattle.wgsl_standard.specs.forms.Member.{is_swizzle}
+use Rattle.wgsl_standard.specs.declared.forms.form.Referent.{Referent}
 use Rattle.wgsl_requests.specs.Requests.{address_of, construct_of, index_of, member_of, typed_array_of}
 use Rattle.wgsl_rules.specs.types.Inner.{inner_of}
 use Rattle.wgsl_rules.specs.types.Types.{within, atomic, pointer, reference, binding_array}

@@ -2,10 +2,10 @@
 pub use Rattle.std.specs.List.{list_all, list_any}
 pub use Rattle.wgsl_core.specs.View.{Member, members_of}
 pub use Rattle.wgsl_expressions.specs.declared.statement.Question.{Question}
-pub use Rattle.wgsl_forms.specs.Expressions.{Expression, is_const_expression, shown_type}
-pub use Rattle.wgsl_forms.specs.Lists.{condition, function, returned}
-pub use Rattle.wgsl_forms.specs.Memory.{behind, formed_from, is_memory}
-pub use Rattle.wgsl_forms.specs.declared.form.Referent.TheVariants.{Component, Swizzle, Whole}
+pub use Rattle.wgsl_standard.specs.forms.Expressions.{Expression, is_const_expression, shown_type}
+pub use Rattle.wgsl_standard.specs.forms.Lists.{condition, function, returned}
+pub use Rattle.wgsl_standard.specs.forms.Memory.{behind, formed_from, is_memory}
+pub use Rattle.wgsl_standard.specs.declared.forms.form.Referent.TheVariants.{Component, Swizzle, Whole}
 pub use Rattle.wgsl_reader.specs.Lists.{listed}
 pub use Rattle.wgsl_reader.specs.Tokens.{Tokens, tokens_of}
 pub use Rattle.wgsl_reader.specs.declared.kind.Kind.{Kind}

@@ -8,8 +8,8 @@ use Rattle.wgsl_syntax.specs.declared.address.AccessMode.{AccessMode}
 use Rattle.wgsl_syntax.specs.declared.address.AddressSpace.{AddressSpace}
 use Rattle.wgsl_syntax.specs.declared.address.AddressSpace.TheVariants.{Function}
 use Rattle.wgsl_syntax.specs.declared.rules.RuleSet.TheVariants.{Standard}
-use Rattle.wgsl_forms.specs.declared.declare.Declaration.{Declaration}
-use Rattle.wgsl_forms.specs.declared.declare.Declaration.TheVariants.{Let, Const, Override}
+use Rattle.wgsl_standard.specs.declared.forms.declare.Declaration.{Declaration}
+use Rattle.wgsl_standard.specs.declared.forms.declare.Declaration.TheVariants.{Let, Const, Override}
 use Rattle.wgsl_reader.specs.declared.kind.Kind.TheVariants as k
 use Rattle.wgsl_requests.specs.Requests.{WgslForm, assignment_of as an_assignment, declaration_of, discard_of, increment_of, initialized_of, load_of, override_of, switch_of, variable_of}
 use Rattle.wgsl_expressions.specs.Outcomes.{Head, Outcome, Parts, declared, with_part}

@@ -1,7 +1,7 @@
 -- What is done with what was read, by what is noted.
 use Rattle.std.specs.Prelude.{◌≡◌, ℕ, ◌-◌, List, [], ◌∷◌, Some, None, Ok, Bool, false, true, ◌||◌, length, slice_get}
 use Rattle.wgsl_expressions.specs.Prelude.{WgslType, scalar, Expression, Whole, Mark, Event, Token, word, a_binary, a_unary, AssignmentOperator, Question}
-use Rattle.wgsl_forms.specs.Concrete.{has_abstract_type}
+use Rattle.wgsl_standard.specs.forms.Concrete.{has_abstract_type}
 use Rattle.wgsl_reader.specs.declared.mark.Mark.TheVariants as m
 use Rattle.wgsl_spelling.specs.Names.{access_named, space_named}
 use Rattle.wgsl_syntax.specs.declared.operator.AssignmentOperator.TheVariants.{Equal}

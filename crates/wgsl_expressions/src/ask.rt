@@ -10,12 +10,12 @@ use crate::called::asked_about;
 use crate::outcome::{Refused, behind, given, shown_type};
 use crate::prelude::*;
 use wgsl_core::ty::form::Form as TypeForm;
-use wgsl_forms::expression::is_const_expression;
-use wgsl_forms::member::is_swizzle;
 use wgsl_requests::ask::answer;
 use wgsl_requests::requests::{Call, Form};
 use wgsl_requests::write::write;
 use wgsl_standard::callee::can_be_const_expression;
+use wgsl_standard::forms::expression::is_const_expression;
+use wgsl_standard::forms::member::is_swizzle;
 use wgsl_standard::substitution::built;
 
 /// The type that is answered, or the text of the answer.

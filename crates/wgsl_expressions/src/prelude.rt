@@ -10,9 +10,6 @@ pub(crate) use std::alloc::Global;
 pub(crate) use wgsl_core::error::Fail;
 pub(crate) use wgsl_core::signature::TpltParam;
 pub(crate) use wgsl_core::ty::{StructType, Type};
-pub(crate) use wgsl_forms::declare::Declaration;
-pub(crate) use wgsl_forms::form::Referent;
-pub(crate) use wgsl_forms::lists::Taker;
 pub(crate) use wgsl_reader::kind::Kind;
 pub(crate) use wgsl_reader::mark::Mark;
 pub(crate) use wgsl_reader::read::Event;
@@ -23,7 +20,12 @@ pub(crate) use wgsl_requests::requests::Request;
 pub(crate) use wgsl_spelling::fault::{Cause, Fault};
 pub(crate) use wgsl_spelling::word::word;
 pub(crate) use wgsl_standard::callee::Callee;
+pub(crate) use wgsl_standard::forms::declare::Declaration;
+pub(crate) use wgsl_standard::forms::form::Referent;
+pub(crate) use wgsl_standard::forms::lists::Taker;
 pub(crate) use wgsl_standard::operand::Operand;
 pub(crate) use wgsl_syntax::address::{AccessMode, AddressSpace};
-pub(crate) use wgsl_syntax::operator::{AssignmentOperator, BinaryOperator, UnaryOperator};
+pub(crate) use wgsl_syntax::operator::{
+    AssignmentOperator, BinaryOperator, UnaryOperator, assignment_named,
+};
 pub(crate) use wgsl_syntax::rules::RuleSet;

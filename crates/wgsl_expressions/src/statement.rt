@@ -1,7 +1,7 @@
 // Declarations, statements and other requests, by their tokens, and the forms that they are.
 ghost use Rattle.std.specs.Prelude.{◌≡◌, map, option_map};
 ghost use Rattle.wgsl_expressions.specs.Prelude.{view, form_view, written_view};
-ghost use Rattle.wgsl_expressions.specs.Statements.{assignment_form, assignment_of, declaration_form, form_stated, only, statement_of, switch_form, undefined_form, variable_form, with_access, with_space};
+ghost use Rattle.wgsl_expressions.specs.Statements.{assignment_form, declaration_form, form_stated, only, statement_of, switch_form, undefined_form, variable_form, with_access, with_space};
 
 use crate::prelude::*;
 use wgsl_requests::requests::Form;
@@ -90,26 +90,6 @@ pub(crate) fn with_access(access: AccessMode, statement: Statement) -> Statement
     match statement {
         Statement::Variable(space, _) => Statement::Variable(space, Some(access)),
         other => other,
-    }
-}
-
-/// The operator of an assignment that a token is.
-pub(crate) fn assignment_of(word: &str) -> Option<AssignmentOperator>
-    ensures { result ≡ assignment_of word.now }
-{
-    match word {
-        "=" => Some(AssignmentOperator::Equal),
-        "+=" => Some(AssignmentOperator::PlusEqual),
-        "-=" => Some(AssignmentOperator::MinusEqual),
-        "*=" => Some(AssignmentOperator::TimesEqual),
-        "/=" => Some(AssignmentOperator::DivisionEqual),
-        "%=" => Some(AssignmentOperator::ModuloEqual),
-        "&=" => Some(AssignmentOperator::AndEqual),
-        "|=" => Some(AssignmentOperator::OrEqual),
-        "^=" => Some(AssignmentOperator::XorEqual),
-        ">>=" => Some(AssignmentOperator::ShiftRightAssign),
-        "<<=" => Some(AssignmentOperator::ShiftLeftAssign),
-        _ => None,
     }
 }
 

@@ -10,7 +10,7 @@ use crate::heading::take_struct;
 use crate::item::{Call, push, take_asked, take_call, take_operand, take_place};
 use crate::outcome::with_part;
 use crate::prelude::*;
-use crate::statement::{assignment_of, statement_of, with_access, with_space};
+use crate::statement::{statement_of, with_access, with_space};
 use wgsl_spelling::fault::Expected;
 use wgsl_syntax::address::access_named;
 
@@ -165,7 +165,7 @@ pub fn assign_by(source: &Source<'_>, items: &mut Items) -> Read<()>
     let y = take_operand(source, items)?;
     let count = take_place(source, items)?;
     let x = take_operand(source, items)?;
-    match assignment_of(source.text_at(count)) {
+    match assignment_named(source.text_at(count)) {
         Some(operator) => put_assignment(source.alloc, operator, x, y, items),
         None => {
             drop(x);

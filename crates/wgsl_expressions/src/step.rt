@@ -20,9 +20,9 @@ use crate::statement_step::{
     annotate, assign, assign_by, begin, increment, put_access, put_asked, put_overloads, put_space,
     put_struct_type, put_value,
 };
-use wgsl_forms::concrete::has_abstract_type;
 use wgsl_spelling::operator::{binary_of, unary_of};
 use wgsl_spelling::value::type_of_literal;
+use wgsl_standard::forms::concrete::has_abstract_type;
 
 /// Does with the items what is noted at an index, with the names of a scope: the last item is on top.
 #[inline(always)]

@@ -1,7 +1,7 @@
 -- Bytes that are compared with a line feed 16 at a time.
-use Rattle.wgsl_lines.proofs.Common.{◌≡◌, ◌∙◌, ◌+◌, ◌-◌, ◌<◌, ◌≤◌, ◌≢◌, ◌==◌, ◌∷◌, ◌++◌, ℕ, List, All, true, ap, append_assoc, get_or, length-drop, arith}
-use Rattle.wgsl_lines.proofs.Common.{length, not, sym, take, drop, prefix_len, chunk, take-add, All-append, drop-drop, get_or-take, length-take}
-use Rattle.wgsl_lines.proofs.Common.{take-append-drop, take-take, take_all, length-chunk}
+use Rattle.wgsl_lines.proofs.Common.{◌≡◌, ◌∙◌, ◌+◌, ◌<◌, ◌≤◌, ◌≢◌, ◌==◌, ℕ, List, All, true, get_or, arith}
+use Rattle.wgsl_lines.proofs.Common.{length, not, sym, take, drop, prefix_len, chunk, take-add, All-append, get_or-take, length-take}
+use Rattle.wgsl_lines.proofs.Common.{take-take, length-chunk}
 use Rattle.std.proofs.lemmas.List.Sums.{prefix_len-le-length, prefix_len_passes}
 
 -- a byte that is said to be no line feed

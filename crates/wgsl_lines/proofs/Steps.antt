@@ -3,7 +3,7 @@ use Rattle.wgsl_lines.proofs.Common.{◌≡◌, ◌∙◌, ℕ, List, [], ◌++�
 use Rattle.wgsl_lines.proofs.Common.{Keeps, ◌≢◌, Bool, ◌∷◌, Result, Ok, Err, refl, string_bytes, subst, All-nil, AllocError, Consumes, IsAtEnd, RunError, Read}
 use Rattle.wgsl_lines.proofs.Common.{Write, Memory, Session, Prints, PrintsFirst, PrintsUntil, AnswersLine, HasPrinted, HasStopped, HasTaken, IsAtStart}
 use Rattle.wgsl_lines.proofs.Common.{IsBetween, StopsAfter, RuleSet}
-use Rattle.std.specs.Prelude.{IfErr, IfOk, IfSome, MatchResult, OnErr, OnOk}
+use Rattle.std.specs.Prelude.{IfErr, IfSome, MatchResult, OnErr, OnOk}
 use Rattle.wgsl_lines.proofs.Taken.{prints_first, cut_of_all, cut_of_first, taken_last, taken_none, taken_so_far, until_none}
 
 -- nothing is written

@@ -48,7 +48,6 @@ none_before m.While at s none = none_if _ _ _ s.told none
 none_before m.For at s none = none_if _ _ _ s.told none
 none_before m.Loop at s none = none_if _ _ _ s.told none
 none_before m.DefaultSelector at s none = none_if _ _ _ s.told none
-none_before m.Default at s none = none_if _ _ _ s.told none
 none_before m.Switch at s none = none_if _ _ _ s.told none
 none_before other at s none = none
 
@@ -61,7 +60,6 @@ allowed_at m.While at s none = right_if _ _ _ s.told none
 allowed_at m.For at s none = right_if _ _ _ s.told none
 allowed_at m.Loop at s none = right_if _ _ _ s.told none
 allowed_at m.DefaultSelector at s none = right_if _ _ _ s.told none
-allowed_at m.Default at s none = right_if _ _ _ s.told none
 allowed_at m.Switch at s none = twice _ (right_if _ _ _ s.told none)
 allowed_at other at s none = refl
 
@@ -87,6 +85,12 @@ none_told [] faults told none = refl
 none_told (b ∷ bs) faults told none =
     let first : Contains (b ∷ bs) b = (0, omega arith, refl) in
     absurd (nothing (subst (λ fs. Contains (map broken fs) b) none (told b first)).1)
+
+-- Without faults there is nothing that the grammar doesn't read.
+pub all_read : (tokens : List Token) (events : List Event) (misread : List Misread) (faults : List Fault)
+    → AreTold (told_of_reading tokens events misread) faults → faults ≡ [] → misread ≡ []
+all_read tokens events [] faults told none = refl
+all_read tokens events (m ∷ ms) faults told none = absurd (one_told (unread m) _ (none_told (told_of_reading tokens events (m ∷ ms)) faults told none))
 
 pub read_whole : (tokens : List Token) (events : List Event) (misread : List Misread) (faults : List Fault) → ReadsModule (map kind_of tokens) events misread
     → AreTold (told_of_reading tokens events misread) faults → faults ≡ [] → IsRead tokens

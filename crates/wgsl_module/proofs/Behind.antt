@@ -3,7 +3,8 @@ use Rattle.std.proofs.Common.{◌≡◌, ◌∙◌, ◌<◌, ◌⊎◌, ℕ, zer
 use Rattle.std.proofs.lemmas.Option.{slice_get-map}
 use Rattle.wgsl_module.specs.Declarations.{Written, written}
 use Rattle.wgsl_module.specs.Named.{Naming, first_called, named_by, named_from, naming}
-use Rattle.wgsl_module.specs.Noted.{Reading, reading, state}
+use Rattle.wgsl_module.specs.States.{state}
+use Rattle.wgsl_module.specs.typing.Names.{Context}
 use Rattle.wgsl_module.specs.Order.{HaveNames, IsBehind, LeadsTo, itself, leads_of, through}
 use Rattle.wgsl_module.specs.declared.checker.Checker.{Checker}
 use Rattle.wgsl_module.specs.declared.walk.Link.TheVariants as links
@@ -31,7 +32,7 @@ same_from text tokens f g same (Some d) at = same_named text tokens f g same d.n
 
 -- A name stands for the first declaration that has it.
 pub all_named : (c : Checker) → HaveNames c (map written c.declarations.items)
-    → (i : ℕ) → leads_of c links.Name i ≡ named_by (reading (state c)) (map written c.declarations.items) i
+    → (i : ℕ) → leads_of c links.Name i ≡ named_by (state c).stack.context (map written c.declarations.items) i
 all_named c names i = same_from c.expressions.text.now c.expressions.tokens.now (λ name. index_of name c.expressions.names)
     (first_called c.expressions.text.now c.expressions.tokens.now (map written c.declarations.items)) names (option_map written (slice_get c.declarations.items i)) 0
     ∙ ap (λ o. named_from (naming c.expressions.text.now c.expressions.tokens.now (map written c.declarations.items)) o 0) (sym (slice_get-map written c.declarations.items i))
@@ -61,45 +62,45 @@ from_too : (text : List ℕ) (tokens : List Token) (f g : List ℕ → Option �
 from_too text tokens f g P finds None at k h = inl h
 from_too text tokens f g P finds (Some d) at k h = named_too text tokens f g P finds d.named false (drop at d.events) k h
 
-named_inside : (s : Reading) (ws : List Written) (o : Option Written) (k : ℕ) → Contains (named_from (naming s.text s.tokens ws) o 0) k → k < length ws
-named_inside s ws None k h = absurd (no_element k h)
-named_inside s ws (Some d) k h = named_each s.text s.tokens (first_called s.text s.tokens ws) (λ i. i < length ws) (called_inside s.text s.tokens ws) d.named false (drop 0 d.events) k h
+named_inside : (c : Context) (ws : List Written) (o : Option Written) (k : ℕ) → Contains (named_from (naming c.text c.tokens ws) o 0) k → k < length ws
+named_inside c ws None k h = absurd (no_element k h)
+named_inside c ws (Some d) k h = named_each c.text c.tokens (first_called c.text c.tokens ws) (λ i. i < length ws) (called_inside c.text c.tokens ws) d.named false (drop 0 d.events) k h
 
-more_named : (s : Reading) (ws : List Written) (x : Written) (i k : ℕ) → Contains (named_by s ws i) k → Contains (named_by s (ws ++ x ∷ []) i) k
-more_named s ws x i k h =
-    elim (from_too s.text s.tokens (first_called s.text s.tokens ws) (first_called s.text s.tokens (ws ++ x ∷ [])) (λ j. ⊥)
-    (λ name j is. inl (called_after s.text s.tokens ws x name j is)) (slice_get ws i) 0 k h) [
-      | inl there ↦ subst (λ o. Contains (named_from (naming s.text s.tokens (ws ++ x ∷ [])) o 0) k)
-          (sym (at_before ws x i (names_inside (naming s.text s.tokens ws) ws i k h))) there
+more_named : (c : Context) (ws : List Written) (x : Written) (i k : ℕ) → Contains (named_by c ws i) k → Contains (named_by c (ws ++ x ∷ []) i) k
+more_named c ws x i k h =
+    elim (from_too c.text c.tokens (first_called c.text c.tokens ws) (first_called c.text c.tokens (ws ++ x ∷ [])) (λ j. ⊥)
+    (λ name j is. inl (called_after c.text c.tokens ws x name j is)) (slice_get ws i) 0 k h) [
+      | inl there ↦ subst (λ o. Contains (named_from (naming c.text c.tokens (ws ++ x ∷ [])) o 0) k)
+          (sym (at_before ws x i (names_inside (naming c.text c.tokens ws) ws i k h))) there
       | inr none ↦ absurd none
     ]
 
-fewer_named : (s : Reading) (ws : List Written) (x : Written) (i k : ℕ) → i < length ws → Contains (named_by s (ws ++ x ∷ []) i) k
-    → Contains (named_by s ws i) k ⊎ (k ≡ length ws)
-fewer_named s ws x i k inside h =
-    from_too s.text s.tokens (first_called s.text s.tokens (ws ++ x ∷ [])) (first_called s.text s.tokens ws) (λ j. j ≡ length ws) (called_before s.text s.tokens ws x)
-    (slice_get ws i) 0 k (subst (λ o. Contains (named_from (naming s.text s.tokens (ws ++ x ∷ [])) o 0) k) (at_before ws x i inside) h)
+fewer_named : (c : Context) (ws : List Written) (x : Written) (i k : ℕ) → i < length ws → Contains (named_by c (ws ++ x ∷ []) i) k
+    → Contains (named_by c ws i) k ⊎ (k ≡ length ws)
+fewer_named c ws x i k inside h =
+    from_too c.text c.tokens (first_called c.text c.tokens (ws ++ x ∷ [])) (first_called c.text c.tokens ws) (λ j. j ≡ length ws) (called_before c.text c.tokens ws x)
+    (slice_get ws i) 0 k (subst (λ o. Contains (named_from (naming c.text c.tokens (ws ++ x ∷ [])) o 0) k) (at_before ws x i inside) h)
 
 -- the one that is left out names nothing
-nowhere : (s : Reading) (ws : List Written) (x : Written) {a b : ℕ} → x.events ≡ [] → LeadsTo (named_by s (ws ++ x ∷ [])) a b → a ≡ length ws → b ≡ length ws
-nowhere s ws x none (itself i) last = last
-nowhere s ws x none (through i next o first rest) last = absurd (no_element next (subst (λ xs. Contains xs next) is_none first))
+nowhere : (c : Context) (ws : List Written) (x : Written) {a b : ℕ} → x.events ≡ [] → LeadsTo (named_by c (ws ++ x ∷ [])) a b → a ≡ length ws → b ≡ length ws
+nowhere c ws x none (itself i) last = last
+nowhere c ws x none (through i next o first rest) last = absurd (no_element next (subst (λ xs. Contains xs next) is_none first))
   where
-    is_none : named_by s (ws ++ x ∷ []) i ≡ []
-    is_none = ap (λ k. named_by s (ws ++ x ∷ []) k) last ∙ (ap (λ o. named_from (naming s.text s.tokens (ws ++ x ∷ [])) o 0) (at_last ws x)
-        ∙ ap (λ es. named_from (naming s.text s.tokens (ws ++ x ∷ [])) (Some (record { kind = x.kind; named = x.named; events = es; body = x.body })) 0) none)
+    is_none : named_by c (ws ++ x ∷ []) i ≡ []
+    is_none = ap (λ k. named_by c (ws ++ x ∷ []) k) last ∙ (ap (λ o. named_from (naming c.text c.tokens (ws ++ x ∷ [])) o 0) (at_last ws x)
+        ∙ ap (λ es. named_from (naming c.text c.tokens (ws ++ x ∷ [])) (Some (record { kind = x.kind; named = x.named; events = es; body = x.body })) 0) none)
 
-fewer_way : (s : Reading) (ws : List Written) (x : Written) {a b : ℕ} → x.events ≡ [] → LeadsTo (named_by s (ws ++ x ∷ [])) a b → a < length ws → b < length ws
-    → LeadsTo (named_by s ws) a b
-fewer_way s ws x none (itself i) inside end = itself i
-fewer_way s ws x none (through i next o first rest) inside end = elim (fewer_named s ws x i next inside first) [
-  | inl there ↦ through i next o there (fewer_way s ws x none rest (named_inside s ws (slice_get ws i) next there) end)
-  | inr last ↦ let past = nowhere s ws x none rest last in absurd (omega (arith, past, end))
+fewer_way : (c : Context) (ws : List Written) (x : Written) {a b : ℕ} → x.events ≡ [] → LeadsTo (named_by c (ws ++ x ∷ [])) a b → a < length ws → b < length ws
+    → LeadsTo (named_by c ws) a b
+fewer_way c ws x none (itself i) inside end = itself i
+fewer_way c ws x none (through i next o first rest) inside end = elim (fewer_named c ws x i next inside first) [
+  | inl there ↦ through i next o there (fewer_way c ws x none rest (named_inside c ws (slice_get ws i) next there) end)
+  | inr last ↦ let past = nowhere c ws x none rest last in absurd (omega (arith, past, end))
 ]
 
-pub fewer_behind : (s : Reading) (ws : List Written) (x : Written) (cycles order : List ℕ) → x.events ≡ [] → IsBehind (named_by s (ws ++ x ∷ [])) cycles order
-    → IsBehind (named_by s ws) cycles order
-fewer_behind s ws x cycles order none behind front index rest is other stands h = elim (behind front index rest is other stands (more_named s ws x index other h)) [
+pub fewer_behind : (c : Context) (ws : List Written) (x : Written) (cycles order : List ℕ) → x.events ≡ [] → IsBehind (named_by c (ws ++ x ∷ [])) cycles order
+    → IsBehind (named_by c ws) cycles order
+fewer_behind c ws x cycles order none behind front index rest is other stands h = elim (behind front index rest is other stands (more_named c ws x index other h)) [
   | inl in_it ↦ inl in_it
-  | inr way ↦ inr (way.0, fewer_way s ws x none way.1 (named_inside s ws (slice_get ws index) other h) (names_inside (naming s.text s.tokens ws) ws index other h))
+  | inr way ↦ inr (way.0, fewer_way c ws x none way.1 (named_inside c ws (slice_get ws index) other h) (names_inside (naming c.text c.tokens ws) ws index other h))
 ]

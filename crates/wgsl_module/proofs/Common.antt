@@ -10,10 +10,10 @@ pub use Rattle.std.specs.BTreeMap.{get_by}
 pub use Rattle.std.specs.Cmp.Lexicographic.{slice_cmp}
 pub use Rattle.std.specs.declared.alloc.AllocError.{AllocError}
 pub use Rattle.wgsl_core.specs.View.{view}
-pub use Rattle.wgsl_forms.specs.Array.{IsInferredArray, typed_array}
-pub use Rattle.wgsl_forms.specs.Lists.{constructed, function, list_fits}
-pub use Rattle.wgsl_forms.specs.Refusals.{Refusal}
-pub use Rattle.wgsl_forms.specs.Views.{answer_view, given, unbuilt_view}
+pub use Rattle.wgsl_standard.specs.forms.Array.{IsInferredArray, typed_array}
+pub use Rattle.wgsl_standard.specs.forms.Lists.{constructed, function, list_fits}
+pub use Rattle.wgsl_standard.specs.forms.Refusals.{Refusal}
+pub use Rattle.wgsl_standard.specs.forms.Views.{answer_view, given, unbuilt_view}
 pub use Rattle.wgsl_rules.specs.standard.Choice.{Operand, value_of}
 pub use Rattle.wgsl_rules.specs.types.Types.{WgslType}
 pub use Rattle.wgsl_standard.specs.Callees.{a_binary, a_unary, callee_view, WgslCallee}

@@ -1,6 +1,7 @@
 mod Allowed
 mod Behind
-mod Calls
+mod Blocks
+mod Called
 mod Common
 mod Faulty
 mod Following
@@ -20,5 +21,6 @@ mod Source
 mod StructNames
 mod Taken
 mod Unread
+mod Variables
 mod Walked
 mod Written

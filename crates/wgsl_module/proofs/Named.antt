@@ -1,5 +1,5 @@
 -- What events name, one by one, and what more declarations change of it.
-use Rattle.std.proofs.Common.{◌≡◌, ◌∙◌, ◌+◌, ◌<◌, ◌≤◌, ◌⊎◌, ℕ, zero, suc, List, [], ◌∷◌, ◌++◌, Bool, true, false, Contains, Option, Some, None, ap, ap₂, arith, bytes_eq, cond, drop, get_or, inl, inr, length, map, option_map, refl, slice_get, subst, sym, take}
+use Rattle.std.proofs.Common.{◌≡◌, ◌∙◌, ◌+◌, ◌<◌, ◌≤◌, ◌⊎◌, ℕ, zero, suc, List, [], ◌∷◌, ◌++◌, Bool, true, false, Contains, Option, Some, None, ap, ap₂, arith, bytes_eq, cond, drop, get_or, inl, inr, is_some, length, map, option_map, refl, slice_get, subst, sym, take}
 use Rattle.std.proofs.Common.{drop-cons, take_all}
 use Rattle.std.specs.List.{cons_option}
 use Rattle.std.proofs.lemmas.List.{drop_all}
@@ -8,7 +8,7 @@ use Rattle.std.proofs.lemmas.List.{length-map}
 use Rattle.std.proofs.lemmas.Slice.Eq.{bytes_eq-Decides}
 use Rattle.wgsl_module.specs.Declarations.{Written, written}
 use Rattle.wgsl_module.specs.Named.{Naming, are_words, first_called, is_called, is_colon, is_own, named_at, named_in, used}
-use Rattle.wgsl_module.specs.Noted.{Keeps, Reading, state}
+use Rattle.wgsl_module.specs.States.{KeepsButNames, source, state}
 use Rattle.wgsl_module.specs.Order.{HaveNames, IsNamed, name_at, unless_called}
 use Rattle.wgsl_module.specs.declared.checker.Checker.{Checker}
 use Rattle.wgsl_module.specs.declared.declaration.Declaration.{Declaration}
@@ -217,7 +217,7 @@ all_before text tokens (d ∷ ds) (suc index) name inside =
     kept_first (is_called text tokens name d.named) (is_called text tokens name (name_at ds index)) index (first_called text tokens (take index (map written ds)) name)
     (first_called text tokens (take (suc index) (map written ds)) name) (all_before text tokens ds index name (omega (arith, inside)))
 
-pub one_more_named : (s r : Checker) (index : ℕ) → index < length s.declarations.items → Keeps (state s) (state r)
+pub one_more_named : (s r : Checker) (index : ℕ) → index < length s.declarations.items → KeepsButNames (state s) (state r)
     → HaveNames s (take index (map written s.declarations.items)) → IsNamed s (name_at s.declarations.items index) index r
     → HaveNames r (take (index + 1) (map written r.declarations.items))
 one_more_named s r index inside keeps names is name =
@@ -225,7 +225,8 @@ one_more_named s r index inside keeps names is name =
     let all : index_of name r.expressions.names ≡ first_called s.expressions.text.now s.expressions.tokens.now (take (suc index) (map written s.declarations.items)) name =
     is name ∙ (ap (unless_called (is_called s.expressions.text.now s.expressions.tokens.now name (name_at s.declarations.items index)) index) (names name)
     ∙ sym (all_before s.expressions.text.now s.expressions.tokens.now s.declarations.items index name inside)) in
-    subst (λ (q : Reading). index_of name r.expressions.names ≡ first_called q.text q.tokens (take (index + 1) (map written q.declarations)) name) (sym keeps)
+    subst (λ (q : List ℕ × List Token × List Declaration). index_of name r.expressions.names ≡ first_called q.0 q.1 (take (index + 1) (map written q.2)) name)
+    (sym (ap source keeps))
     (subst (λ k. index_of name r.expressions.names ≡ first_called s.expressions.text.now s.expressions.tokens.now (take k (map written s.declarations.items)) name) next all)
 
 pub all_have_names : (c : Checker) (index : ℕ) → length c.declarations.items ≤ index → HaveNames c (take index (map written c.declarations.items))
@@ -250,3 +251,15 @@ name_given key index old new puts none name =
     go : (b : Bool) → (b ≡ true → key.now ≡ name) → cond b (Some index) (index_of name old) ≡ unless_called b index (index_of name old)
     go true is = sym (ap (unless_called true index) (subst (λ n. index_of n old ≡ None) (is refl) none))
     go false is = refl
+
+-- what stands for something goes on standing for that
+pub still_named : (b : Bool) (index k : ℕ) (found : Option ℕ) → found ≡ Some k → unless_called b index found ≡ Some k
+still_named b index k found is = subst (λ o. unless_called b index o ≡ Some k) (sym is) (go b)
+  where
+    go : (b : Bool) → unless_called b index (Some k) ≡ Some k
+    go true = refl
+    go false = refl
+
+pub not_there : (found : Option ℕ) → is_some found ≡ false → found ≡ None
+not_there None none = refl
+not_there (Some k) none = cc none

@@ -2,7 +2,7 @@
 use Rattle.std.proofs.Common.{◌≡◌, List, Option, Result, Ok, Err, IfOk, Some, None, option_map, sym, subst, ap, ◌∙◌}
 use Rattle.wgsl_module.proofs.Common.{AllocError, view, Operand, WgslType, WgslCallee, IsCallResolution, IsInferredArray, resolved_view, ResolvedCall, Refusal, Outcome, Part, Typed, Stage, IsHeld, IsHeldFor, answer_of, Unresolved}
 use Rattle.wgsl_core.specs.declared.ty.Type.{«Type»}
-use Rattle.wgsl_forms.specs.declared.form.Referent.TheVariants.{Whole}
+use Rattle.wgsl_standard.specs.declared.forms.form.Referent.TheVariants.{Whole}
 use Rattle.wgsl_module.specs.declared.typing.known.Outcome.TheVariants as outcomes
 use Rattle.wgsl_module.specs.typing.Counts.{unless_counted}
 use Rattle.wgsl_module.specs.typing.Outcomes.{HasResult, HasType, IsAnswer, IsFound, IsInferred, IsInferredAs, IsMade, IsOverloaded, IsType, OrFaulty, resolved, stage_of, types_of}

@@ -1,8 +1,8 @@
 -- A short struct has the facts of the whole one.
 use Rattle.std.proofs.Common.{◌≡◌, ℕ, Option, Some, None, Bool, true, false, refl, sym, ap, ◌∙◌, ◌&&◌}
 use Rattle.wgsl_rules.specs.types.Types.{array_of, vec_of, mat_of, WgslType, Members, no_members, member, scalar, within, struct, atomic}
-use Rattle.wgsl_forms.specs.Kinds.{are_host_shareable, has_fixed_footprint, have_fixed_footprint}
-use Rattle.wgsl_forms.specs.Variable.{may_end, may_end_members}
+use Rattle.wgsl_standard.specs.forms.Kinds.{are_host_shareable, has_fixed_footprint, have_fixed_footprint}
+use Rattle.wgsl_standard.specs.forms.Variable.{may_end, may_end_members}
 use Rattle.wgsl_module.specs.typing.Short.{KeepsFacts, leaf, standing_for}
 
 and_keeps : (a b c d : Bool) → (a ≡ true → c ≡ true) → (b ≡ true → d ≡ true) → (a && b) ≡ true → (c && d) ≡ true

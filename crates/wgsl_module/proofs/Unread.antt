@@ -1,10 +1,12 @@
 -- What the grammar doesn't read has no expressions.
-use Rattle.std.proofs.Common.{◌≡◌, ◌∙◌, ◌<◌, ℕ, zero, suc, List, [], ◌∷◌, ◌++◌, Some, ap, arith, length, map, slice_get, subst}
+use Rattle.std.proofs.Common.{◌≡◌, ◌∙◌, ◌<◌, ℕ, zero, suc, List, [], ◌∷◌, ◌++◌, ap, arith, length, map, slice_get, subst}
 use Rattle.std.proofs.lemmas.List.{map_push}
 use Rattle.wgsl_module.proofs.Behind.{fewer_behind}
-use Rattle.wgsl_module.specs.Declarations.{Written, bodies_of, body_by, written}
-use Rattle.wgsl_module.specs.Noted.{Comes, Reading, State, reading}
-use Rattle.wgsl_module.specs.Runs.{AreDeclarations, AreRuns, Ends, IsDeclaration, IsModule, cleared}
+use Rattle.wgsl_module.proofs.Named.{called_after}
+use Rattle.wgsl_module.specs.Declarations.{Written, written}
+use Rattle.wgsl_module.specs.Noted.{Comes}
+use Rattle.wgsl_module.specs.States.{State, cleared}
+use Rattle.wgsl_module.specs.Runs.{AreBodies, AreDeclarations, Declares, DeclaresIf, Directs, Ends, IsBody, IsModule}
 use Rattle.wgsl_module.specs.declared.declaration.Declaration.{Declaration}
 use Rattle.wgsl_module.specs.declared.declaration.DeclarationKind.{DeclarationKind}
 use Rattle.wgsl_module.specs.declared.declaration.DeclarationKind.TheVariants as kinds
@@ -15,47 +17,52 @@ no_event : (tokens : List Token) (events : List Event) (s r : State) → events 
 no_event tokens [] s r none same = same
 no_event tokens (e ∷ events) s r none come = cc none
 
-no_end : (kind : DeclarationKind) (s r : State) → kind ≡ kinds.Misread → Ends kind s r → reading r ≡ reading s
+no_end : (kind : DeclarationKind) (s r : State) → kind ≡ kinds.Misread → Ends kind s r → r ≡ s
 no_end kind s r is end = subst (λ k. Ends k s r) is end
 
-no_events : (tokens : List Token) (x : Written) (s r : Reading) → x.kind ≡ kinds.Misread → x.events ≡ [] → IsDeclaration tokens (Some x) s r → r ≡ cleared s
-no_events tokens x s r kind none is =
-    is.4 ∙ (no_end x.kind is.3.0 is.1 kind is.3.2 ∙ (ap reading (no_event tokens x.events is.0 is.3.0 none is.3.1) ∙ is.2))
+no_directive : (kind : DeclarationKind) (s r : State) → kind ≡ kinds.Misread → Directs kind s r → r ≡ s
+no_directive kind s r is directs = subst (λ k. Directs k s r) is directs
 
-one_fewer : (tokens : List Token) (ws : List Written) (x : Written) (index : ℕ) (s r : Reading) → x.kind ≡ kinds.Misread → x.events ≡ []
-    → IsDeclaration tokens (slice_get (ws ++ x ∷ []) index) s r → IsDeclaration tokens (slice_get ws index) s r
+no_events : (tokens : List Token) (x : Written) (s r : State) → x.kind ≡ kinds.Misread → x.events ≡ [] → Declares tokens x.kind x.events s r → r ≡ s
+no_events tokens x s r kind none is =
+    no_end x.kind is.1 r kind is.4 ∙ (no_event tokens x.events is.0 is.1 none is.3 ∙ no_directive x.kind s is.0 kind is.2)
+
+one_fewer : (tokens : List Token) (ws : List Written) (x : Written) (index : ℕ) (s r : State) → x.kind ≡ kinds.Misread → x.events ≡ []
+    → DeclaresIf tokens (slice_get (ws ++ x ∷ []) index) s r → DeclaresIf tokens (slice_get ws index) s r
 one_fewer tokens [] x zero s r kind none is = no_events tokens x s r kind none is
 one_fewer tokens [] x (suc index) s r kind none is = is
 one_fewer tokens (w ∷ ws) x zero s r kind none is = is
 one_fewer tokens (w ∷ ws) x (suc index) s r kind none is = one_fewer tokens ws x index s r kind none is
 
-fewer : (tokens : List Token) (ws : List Written) (x : Written) (order : List ℕ) (s r : Reading) → x.kind ≡ kinds.Misread → x.events ≡ []
+fewer : (tokens : List Token) (ws : List Written) (x : Written) (order : List ℕ) (s r : State) → x.kind ≡ kinds.Misread → x.events ≡ []
     → AreDeclarations tokens (ws ++ x ∷ []) order s r → AreDeclarations tokens ws order s r
 fewer tokens ws x [] s r kind none are = are
 fewer tokens ws x (index ∷ order) s r kind none are =
-    (are.0, one_fewer tokens ws x index s are.0 kind none are.1, fewer tokens ws x order are.0 r kind none are.2)
+    let one = are.1 in
+    (are.0, (one.0, one.1, one_fewer tokens ws x index (cleared s) one.0 kind none one.2, one.3), fewer tokens ws x order are.0 r kind none are.2)
 
 within : (ws : List Written) (x : Written) (i : ℕ) → i < length ws → i < length (ws ++ x ∷ [])
 within [] x i below = absurd (omega (arith, below))
 within (w ∷ ws) x zero below = omega arith
 within (w ∷ ws) x (suc i) below = let rest = within ws x i (omega (arith, below)) in omega (arith, rest)
 
-no_body : (ws : List Written) (x : Written) → x.kind ≡ kinds.Misread → bodies_of (ws ++ x ∷ []) ≡ bodies_of ws
-no_body [] x is = ap (λ k. body_by k x.body ++ []) is
-no_body (w ∷ ws) x is = ap (λ bs. body_by w.kind w.body ++ bs) (no_body ws x is)
+fewer_bodies : (tokens : List Token) (ws : List Written) (x : Written) (s r : State) → x.kind ≡ kinds.Misread → AreBodies tokens (ws ++ x ∷ []) s r → AreBodies tokens ws s r
+fewer_bodies tokens [] x s r kind are = are.2 ∙ subst (λ k. IsBody tokens k x.events x.body s are.0) kind are.1
+fewer_bodies tokens (w ∷ ws) x s r kind are = (are.0, are.1, fewer_bodies tokens ws x are.0 r kind are.2)
 
-without_last : (cycles : List ℕ) (tokens : List Token) (ws : List Written) (x : Written) (s r : Reading) → x.kind ≡ kinds.Misread → x.events ≡ []
+without_last : (cycles : List ℕ) (tokens : List Token) (ws : List Written) (x : Written) (s r : State) → x.kind ≡ kinds.Misread → x.events ≡ []
     → IsModule cycles tokens (ws ++ x ∷ []) s r → IsModule cycles tokens ws s r
 without_last cycles tokens ws x s r kind none is = (
   is.0,
   is.1,
   λ i above below. is.2 i above (within ws x i below),
-  fewer_behind s ws x cycles is.0 none is.3,
+  fewer_behind s.stack.context ws x cycles is.0 none is.3,
   fewer tokens ws x is.0 s is.1 kind none is.4,
-  subst (λ bs. AreRuns tokens bs is.1 r) (no_body ws x kind) is.5,
+  fewer_bodies tokens ws x is.1 r kind is.5,
+  λ name index first. is.6 name index (called_after s.stack.context.text s.stack.context.tokens ws x name index first),
 )
 
-pub misread_pushed : (cycles : List ℕ) (tokens : List Token) (all ds : List Declaration) (x : Declaration) (s r : Reading) → all ≡ ds ++ x ∷ [] → x.kind ≡ kinds.Misread
+pub misread_pushed : (cycles : List ℕ) (tokens : List Token) (all ds : List Declaration) (x : Declaration) (s r : State) → all ≡ ds ++ x ∷ [] → x.kind ≡ kinds.Misread
     → x.events.now ≡ [] → IsModule cycles tokens (map written all) s r → IsModule cycles tokens (map written ds) s r
 misread_pushed cycles tokens all ds x s r pushed kind none is =
     without_last cycles tokens (map written ds) (written x) s r kind none

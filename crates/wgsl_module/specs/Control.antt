@@ -2,7 +2,7 @@
 use Rattle.std.specs.Prelude.{◌≡◌, ℕ, ◌-◌, List, [], ◌∷◌, ◌++◌, Bool, true, false, cond, map, not, ◌&&◌}
 use Rattle.wgsl_module.specs.Behaviours.{goes_on, may_break}
 use Rattle.wgsl_module.specs.Flow.{begun_on, below, clauses_on, ended, is_returned, opened, statements, with_condition, with_else}
-use Rattle.wgsl_module.specs.Statements.{began, block_closed, broken_off, continued, continuing_ended, goes_nowhere, if_ended, in_function, inside, loop_ended, loop_on, may_fall_off, outside_of, return_ended, switch_ended, switch_opened, with_clause, with_default}
+use Rattle.wgsl_module.specs.Statements.{began, block_closed, broken_off, continued, continuing_ended, goes_nowhere, if_ended, in_function, inside, loop_ended, loop_on, may_fall_off, outside_of, return_ended, switch_ended, switch_opened, with_clause, with_default, word_of}
 use Rattle.wgsl_module.specs.Told.{Broken, broken}
 use Rattle.wgsl_module.specs.declared.control.Control.{Control}
 use Rattle.wgsl_module.specs.declared.frame.Around.{Around}
@@ -39,40 +39,39 @@ abbrev pub outside : State
 outside = record { frames = []; around = in_function; has_result = false; told = [] }
 
 -- The statements that are open behind an event, whose last token is of this kind.
-abbrev pub frames_by : Kind → Mark → Around → List Frame → List Frame
-frames_by word m.Let around fs = ended goes_on fs
-frames_by word m.Const around fs = ended goes_on fs
-frames_by word m.Variable around fs = ended goes_on fs
-frames_by word m.ConstAssert around fs = ended goes_on fs
-frames_by word m.Assign around fs = ended goes_on fs
-frames_by word m.AssignBy around fs = ended goes_on fs
-frames_by word m.Increment around fs = ended goes_on fs
-frames_by word m.Decrement around fs = ended goes_on fs
-frames_by word m.Phony around fs = ended goes_on fs
-frames_by word m.CallStatement around fs = ended goes_on fs
-frames_by word m.Discard around fs = ended goes_on fs
-frames_by word m.Break around fs = ended (broken_off around) fs
-frames_by word m.Continue around fs = ended (continued around) fs
-frames_by word m.Returned around fs = Returned ∷ fs
-frames_by word m.Return around fs = return_ended fs
-frames_by word m.Begin around fs = began word around fs
-frames_by word m.Open around fs = opened word fs
-frames_by word m.Block around fs = block_closed fs
-frames_by word m.Condition around fs = with_condition fs
-frames_by word m.BreakIf around fs = ended may_break fs
-frames_by word m.Else around fs = with_else fs
-frames_by word m.If around fs = if_ended fs
-frames_by word m.While around fs = loop_ended fs
-frames_by word m.For around fs = loop_ended fs
-frames_by word m.Loop around fs = loop_ended fs
-frames_by word m.Continuing around fs = continuing_ended fs
-frames_by word m.Selector around fs = switch_opened fs
-frames_by word m.Case around fs = with_clause fs
-frames_by word m.Default around fs = with_default (with_clause fs)
-frames_by word m.DefaultSelector around fs = with_default fs
-frames_by word m.Switch around fs = switch_ended fs
-frames_by word m.Function around fs = []
-frames_by word other around fs = fs
+abbrev pub frames_by : Kind → Mark → ℕ → Around → List Frame → List Frame
+frames_by word m.Let at around fs = ended goes_on fs
+frames_by word m.Const at around fs = ended goes_on fs
+frames_by word m.Variable at around fs = ended goes_on fs
+frames_by word m.ConstAssert at around fs = ended goes_on fs
+frames_by word m.Assign at around fs = ended goes_on fs
+frames_by word m.AssignBy at around fs = ended goes_on fs
+frames_by word m.Increment at around fs = ended goes_on fs
+frames_by word m.Decrement at around fs = ended goes_on fs
+frames_by word m.Phony at around fs = ended goes_on fs
+frames_by word m.CallStatement at around fs = ended goes_on fs
+frames_by word m.Discard at around fs = ended goes_on fs
+frames_by word m.Break at around fs = ended (broken_off around) fs
+frames_by word m.Continue at around fs = ended (continued around) fs
+frames_by word m.Returned at around fs = Returned ∷ fs
+frames_by word m.Return at around fs = return_ended fs
+frames_by word m.Begin at around fs = began word at around fs
+frames_by word m.Open at around fs = opened word fs
+frames_by word m.Block at around fs = block_closed fs
+frames_by word m.Condition at around fs = with_condition fs
+frames_by word m.BreakIf at around fs = ended may_break fs
+frames_by word m.Else at around fs = with_else fs
+frames_by word m.If at around fs = if_ended fs
+frames_by word m.While at around fs = loop_ended fs
+frames_by word m.For at around fs = loop_ended fs
+frames_by word m.Loop at around fs = loop_ended fs
+frames_by word m.Continuing at around fs = continuing_ended fs
+frames_by word m.Selector at around fs = switch_opened fs
+frames_by word m.Case at around fs = with_clause fs
+frames_by word m.DefaultSelector at around fs = with_default fs
+frames_by word m.Switch at around fs = switch_ended fs
+frames_by word m.Function at around fs = []
+frames_by word other at around fs = fs
 
 -- What is around from then on: behind a statement with blocks, what was around it.
 abbrev pub around_by : Kind → Mark → List Frame → Around → Around
@@ -94,19 +93,18 @@ has_result_by other has_result = has_result
 
 -- What is told: of `break` and `continue` that nothing around takes, of a `return` in a `continuing` or without the function's
 -- value, of the end of a function with a result that may be reached, of a loop that no way leads out of, and of a `switch` that
--- hasn't one `default`.
+-- hasn't one `default`. A loop and a `switch` are told at their word.
 abbrev pub told_by : Mark → ℕ → State → List Broken
 told_by m.Break at s = told_if (not s.around.may_break) rules.Behaviour (last_of (at - 1)) s.told
 told_by m.Continue at s = told_if (not s.around.may_continue) rules.Behaviour (last_of (at - 1)) s.told
 told_by m.Return at s = told_if (not (is_returned s.frames) && s.has_result) rules.Type (last_of (at - 1))
     (told_if s.around.in_continuing rules.Behaviour (last_of (at - 1)) s.told)
 told_by m.Block at s = told_if (may_fall_off s.frames && s.has_result) rules.Behaviour (last_of at) s.told
-told_by m.While at s = told_if (goes_nowhere (loop_on s.frames)) rules.Behaviour (last_of at) s.told
-told_by m.For at s = told_if (goes_nowhere (loop_on s.frames)) rules.Behaviour (last_of at) s.told
-told_by m.Loop at s = told_if (goes_nowhere (loop_on s.frames)) rules.Behaviour (last_of at) s.told
+told_by m.While at s = told_if (goes_nowhere (loop_on s.frames)) rules.Behaviour (last_of (word_of (begun_on (below s.frames)))) s.told
+told_by m.For at s = told_if (goes_nowhere (loop_on s.frames)) rules.Behaviour (last_of (word_of (begun_on (below s.frames)))) s.told
+told_by m.Loop at s = told_if (goes_nowhere (loop_on s.frames)) rules.Behaviour (last_of (word_of (begun_on (below s.frames)))) s.told
 told_by m.DefaultSelector at s = told_if (clauses_on s.frames).1 rules.Switch (last_of at) s.told
-told_by m.Default at s = told_if (clauses_on (with_clause s.frames)).1 rules.Switch (last_of at) s.told
-told_by m.Switch at s = told_if (not (clauses_on s.frames).1) rules.Switch (last_of at) s.told
+told_by m.Switch at s = told_if (not (clauses_on s.frames).1) rules.Switch (last_of (word_of (begun_on (below s.frames)))) s.told
 told_by other at s = s.told
 
 -- where an event stands it is allowed: what isn't is told
@@ -119,13 +117,12 @@ is_allowed m.While s = not (goes_nowhere (loop_on s.frames))
 is_allowed m.For s = not (goes_nowhere (loop_on s.frames))
 is_allowed m.Loop s = not (goes_nowhere (loop_on s.frames))
 is_allowed m.DefaultSelector s = not (clauses_on s.frames).1
-is_allowed m.Default s = not (clauses_on (with_clause s.frames)).1
 is_allowed m.Switch s = (clauses_on s.frames).1
 is_allowed other s = true
 
 abbrev pub behind : Kind → Mark → ℕ → State → State
 behind word mark at s = record {
-  frames = frames_by word mark s.around s.frames;
+  frames = frames_by word mark at s.around s.frames;
   around = around_by word mark s.frames s.around;
   has_result = has_result_by mark s.has_result;
   told = told_by mark at s;

@@ -1,5 +1,5 @@
 -- Which events of a module end a declaration, and which are the bodies of its functions (WGSL, "Declaration and Scope").
-use Rattle.std.specs.Prelude.{ℕ, ◌+◌, ◌-◌, ◌&&◌, List, [], ◌∷◌, ◌++◌, Bool, true, false, ◌||◌, Option, Some, None, cond, nat_eq, slice_range}
+use Rattle.std.specs.Prelude.{ℕ, ◌+◌, ◌-◌, ◌&&◌, List, [], ◌∷◌, Bool, true, false, ◌||◌, Option, Some, None, cond, nat_eq, slice_range}
 use Rattle.wgsl_module.specs.declared.declaration.Declaration.{Declaration}
 use Rattle.wgsl_module.specs.declared.declaration.DeclarationKind.{DeclarationKind}
 use Rattle.wgsl_module.specs.declared.declaration.DeclarationKind.TheVariants as kinds
@@ -87,15 +87,6 @@ abbrev pub written_in : Bool → List Event → List Written
 written_in in_body [] = []
 written_in in_body (e ∷ events) = with_end (ended e.mark in_body) (in_body || begins e.mark) e
     (written_in (unless_ended (ended e.mark in_body) (in_body || begins e.mark)) events)
-
--- the bodies of the functions among declarations, in their order
-abbrev pub body_by : DeclarationKind → List Event → List (List Event)
-body_by kinds.Function body = body ∷ []
-body_by other body = []
-
-abbrev pub bodies_of : List Written → List (List Event)
-bodies_of [] = []
-bodies_of (d ∷ ds) = body_by d.kind d.body ++ bodies_of ds
 
 -- where the body begins that is read behind an event
 abbrev pub begun : Mark → ℕ → Option ℕ → Option ℕ

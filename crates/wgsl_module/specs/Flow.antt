@@ -1,6 +1,6 @@
 -- Statements that are open, the innermost first, and where control goes on from what is read of them (WGSL, "Control Flow",
 -- "Behaviors").
-use Rattle.std.specs.Prelude.{List, [], ◌∷◌, Bool, true, false, Option, Some, None, reverse}
+use Rattle.std.specs.Prelude.{ℕ, List, [], ◌∷◌, Bool, true, false, Option, Some, None, reverse}
 use Rattle.wgsl_module.specs.Behaviours.{continued_by, either, followed_by, goes_on, nowhere}
 use Rattle.wgsl_module.specs.declared.behaviour.Behaviour.{Behaviour}
 use Rattle.wgsl_module.specs.declared.flow.Flow.{Flow}
@@ -72,13 +72,13 @@ with_body b (frames.Block a ∷ fs) = frames.Block (followed_by a b) ∷ fs
 with_body b fs = frames.Body b ∷ fs
 
 -- the statement on top
-abbrev pub begun_on : List Frame → Option (Kind × Around × Bool)
-begun_on (frames.Begun word around has_condition ∷ fs) = Some (word, around, has_condition)
+abbrev pub begun_on : List Frame → Option (ℕ × Around × Bool)
+begun_on (frames.Begun at around has_condition ∷ fs) = Some (at, around, has_condition)
 begun_on fs = None
 
 -- `while c`, `for (; c;)`
 abbrev pub with_condition : List Frame → List Frame
-with_condition (frames.Begun word around has_condition ∷ fs) = frames.Begun word around true ∷ fs
+with_condition (frames.Begun at around has_condition ∷ fs) = frames.Begun at around true ∷ fs
 with_condition fs = fs
 
 -- `continuing { }`: what the body does with it

@@ -1,5 +1,7 @@
 pub mod Arguments
 pub mod Behaviours
+pub mod Blocks
+pub mod Called
 pub mod Checked
 pub mod Control
 pub mod Declarations
@@ -7,7 +9,9 @@ pub mod Flow
 pub mod Named
 pub mod Noted
 pub mod Order
+pub mod Recursion
 pub mod Runs
+pub mod States
 pub mod Statements
 pub mod Told
 pub mod typing

@@ -3,7 +3,7 @@ use Rattle.std.specs.Prelude.{ℕ, suc, List, [], ◌∷◌, Bool, true, false, 
 use Rattle.std.specs.List.{cons_option}
 use Rattle.wgsl_module.specs.Arguments.{takes_names}
 use Rattle.wgsl_module.specs.Declarations.{Written}
-use Rattle.wgsl_module.specs.Noted.{Reading}
+use Rattle.wgsl_module.specs.typing.Names.{Context}
 use Rattle.wgsl_module.specs.typing.Words.{kind_of_any, word_at}
 use Rattle.wgsl_reader.specs.declared.kind.Kind.{Kind}
 use Rattle.wgsl_reader.specs.declared.kind.Kind.TheVariants.{Colon}
@@ -69,5 +69,5 @@ abbrev pub naming : List ℕ → List Token → List Written → Naming
 naming text tokens ds = record { text = text; tokens = tokens; declared = first_called text tokens ds }
 
 -- the declarations that the one with an index names
-abbrev pub named_by : Reading → List Written → ℕ → List ℕ
-named_by s ds index = named_from (naming s.text s.tokens ds) (slice_get ds index) 0
+abbrev pub named_by : Context → List Written → ℕ → List ℕ
+named_by c ds index = named_from (naming c.text c.tokens ds) (slice_get ds index) 0

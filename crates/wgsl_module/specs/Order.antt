@@ -1,11 +1,11 @@
 -- Declarations in the order in which they are read: each once, behind those that it leads to.
-use Rattle.std.specs.Prelude.{◌≡◌, ◌⊎◌, ◌++◌, ◌∷◌, [], ℕ, ◌<◌, ◌≤◌, List, Bool, true, Contains, Option, Some, None, cond, drop, map, nat_eq, option_and_then, option_map, slice_get, slice_set}
+use Rattle.std.specs.Prelude.{◌≡◌, ◌⊎◌, ◌++◌, ◌∷◌, [], ℕ, ◌<◌, ◌≤◌, List, Bool, true, Contains, Option, Some, None, cond, map, nat_eq, option_and_then, option_map, slice_get, slice_set}
 use Rattle.std.specs.List.{sum_by}
+use Rattle.wgsl_module.specs.Called.{called_from}
 use Rattle.wgsl_module.specs.Declarations.{Written, written}
 use Rattle.wgsl_module.specs.Named.{Naming, first_called, is_called, named_from}
 use Rattle.wgsl_module.specs.declared.checker.Checker.{Checker}
 use Rattle.wgsl_module.specs.declared.declaration.Declaration.{Declaration}
-use Rattle.wgsl_module.specs.declared.typing.expressions.Doings.{Doings}
 use Rattle.wgsl_module.specs.declared.typing.fault.Place.{Place}
 use Rattle.wgsl_module.specs.declared.walk.Link.{Link}
 use Rattle.wgsl_module.specs.declared.walk.Link.TheVariants as links
@@ -41,18 +41,10 @@ cycling cycles = map (λ cycle. cycle.0) cycles
 abbrev pub naming_of : Checker → Naming
 naming_of c = record { text = c.expressions.text.now; tokens = c.expressions.tokens.now; declared = λ name. index_of name c.expressions.names }
 
-abbrev pub calls_of : Option (Option Doings) → List ℕ
-calls_of (Some (Some d)) = map (λ call. call.0) d.calls.items
-calls_of other = []
-
-abbrev pub call_at : Option (Option Doings) → ℕ → Option (ℕ × Place)
-call_at (Some (Some d)) at = slice_get d.calls.items at
-call_at other at = None
-
--- those that one leads to, from an event or a call on
+-- those that one leads to, from one of its events or of those of its body on
 abbrev pub leads_from : Checker → Link → ℕ → ℕ → List ℕ
 leads_from c links.Name index at = named_from (naming_of c) (option_map written (slice_get c.declarations.items index)) at
-leads_from c links.Call index at = drop at (calls_of (slice_get c.doings.items index))
+leads_from c links.Call index at = called_from (naming_of c) (option_map written (slice_get c.declarations.items index)) at
 
 abbrev pub leads_of : Checker → Link → ℕ → List ℕ
 leads_of c link index = leads_from c link index 0
@@ -74,6 +66,10 @@ unless_called is index found = found
 abbrev pub IsNamed : Checker → Option ℕ → ℕ → Checker → Type 0
 IsNamed s named index r = (name : List ℕ) → index_of name r.expressions.names
     ≡ unless_called (is_called s.expressions.text.now s.expressions.tokens.now name named) index (index_of name s.expressions.names)
+
+-- each name that stands for something goes on standing for that
+abbrev pub KeepNames : Checker → Checker → Type 0
+KeepNames s r = (name : List ℕ) (index : ℕ) → index_of name s.expressions.names ≡ Some index → index_of name r.expressions.names ≡ Some index
 
 -- While they are followed
 

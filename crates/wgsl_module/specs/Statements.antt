@@ -1,6 +1,6 @@
 -- What a statement that is read does to those that are open, and what of it is wrong by where control goes on (WGSL, "Control
 -- Flow", "Behaviors").
-use Rattle.std.specs.Prelude.{List, [], ◌∷◌, Bool, true, false, Option, Some, None, cond, option_map}
+use Rattle.std.specs.Prelude.{ℕ, List, [], ◌∷◌, Bool, true, false, Option, Some, None, cond, option_map}
 use Rattle.wgsl_module.specs.Behaviours.{break_alone, continue_alone, either, goes_on, looped, may_break, never_ends, nowhere, return_alone, switched}
 use Rattle.wgsl_module.specs.Flow.{begun_on, below, block_on, body_on, clauses_on, ended, if_on, with_body, with_continuing, without_returned}
 use Rattle.wgsl_module.specs.declared.behaviour.Behaviour.{Behaviour}
@@ -35,13 +35,19 @@ has_blocks kinds.Continuing = true
 has_blocks kinds.If = true
 has_blocks word = false
 
-abbrev pub began : Kind → Around → List Frame → List Frame
-began word around fs = cond (has_blocks word) (frames.Begun word around false ∷ fs) fs
+-- the word is the last of that many tokens
+abbrev pub began : Kind → ℕ → Around → List Frame → List Frame
+began word at around fs = cond (has_blocks word) (frames.Begun at around false ∷ fs) fs
 
 -- what is around behind the statement on top: what was around it
-abbrev pub outside_of : Option (Kind × Around × Bool) → Around → Around
+abbrev pub outside_of : Option (ℕ × Around × Bool) → Around → Around
 outside_of None around = around
 outside_of (Some b) around = b.1
+
+-- where the word of that statement is
+abbrev pub word_of : Option (ℕ × Around × Bool) → ℕ
+word_of None = 0
+word_of (Some b) = b.0
 
 -- Blocks
 

@@ -1,4 +1,5 @@
 pub mod Calls
+pub mod Computed
 pub mod Counts
 pub mod Declarations
 pub mod Elements

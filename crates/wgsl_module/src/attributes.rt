@@ -1,7 +1,8 @@
 // Attributes where they stand, and what their arguments say (WGSL, "Attributes"). Only tested.
 ghost use Rattle.std.specs.Prelude.{[], ◌≡◌, IfOk, reverse};
 ghost use Rattle.wgsl_module.specs.Arguments.{AreArguments, IsArgument, is_const, takes_names, word_of};
-ghost use Rattle.wgsl_module.specs.Noted.{AttributeIf, HasArguments, Keeps, OpensAttribute, source, state};
+ghost use Rattle.wgsl_module.specs.Noted.{AttributeIf, HasArguments, OpensAttribute};
+ghost use Rattle.wgsl_module.specs.States.{Keeps, source, state};
 ghost use Rattle.wgsl_module.specs.typing.Words.{kind_at};
 
 use crate::attribute::{Attribute, Attributes, Name, Owner, attribute_named};
@@ -248,11 +249,15 @@ impl<'t> Checker<'t> {
         ensures state { state self.new ≡ state self.old }
     {
         match word_of(takes_names, &item) {
-            Some(count) => arguments.names.push(count)?,
+            Some(count) => {
+                drop(item);
+                arguments.names.push(count)?;
+            }
             None => {
                 let part = self.expressions.part_of_item(item)?;
-                self.expressions.has_value(&part)?;
+                let checked = self.expressions.has_value(&part);
                 arguments.parts.push(part)?;
+                checked?;
             }
         }
         Ok(())

@@ -1,7 +1,7 @@
 // The state of a check.
-ghost use Rattle.std.specs.Prelude.{◌≡◌, []};
-ghost use Rattle.wgsl_module.specs.Noted.{Keeps, reading, state};
-ghost use Rattle.wgsl_module.specs.Runs.{cleared};
+ghost use Rattle.std.specs.Prelude.{◌≡◌, [], ◌∷◌};
+ghost use Rattle.wgsl_module.specs.States.{Keeps, cleared, state};
+ghost use Rattle.wgsl_module.specs.typing.Scopes.{scope_view};
 ghost use Rattle.wgsl_module.specs.typing.Words.{word_at};
 
 use crate::attribute::{Attribute, Attributes, Owner};
@@ -63,6 +63,7 @@ impl<'t> Checker<'t> {
         ensures parts { (state result).stack.parts ≡ [] }
         ensures text { (state result).stack.context.text ≡ text.now }
         ensures tokens { (state result).stack.context.tokens ≡ tokens.now }
+        ensures scope { scope_view (state result).stack.context.locals ≡ [] ∷ [] }
     {
         Checker {
             expressions: Expressions::none(alloc, text, tokens),
@@ -86,7 +87,7 @@ impl<'t> Checker<'t> {
 
     /// Nothing stands on the stack any more.
     pub fn clear(&mut self)
-        ensures { reading (state self.new) ≡ cleared (reading (state self.old)) }
+        ensures { state self.new ≡ cleared (state self.old) }
     {
         self.expressions.items.clear();
         self.switches.clear();

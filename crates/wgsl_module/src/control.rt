@@ -2,7 +2,7 @@
 ghost use Rattle.std.specs.Prelude.{◌≡◌, ◌-◌, ◌&&◌, [], true, false, IfOk, map, not, option_map};
 ghost use Rattle.wgsl_module.specs.Control.{around_by, behind_all, has_result_by, frames_by, outside, state, told_by, told_if, told_of};
 ghost use Rattle.wgsl_module.specs.Flow.{begun_on, below, clauses_on, ended, is_returned, statements};
-ghost use Rattle.wgsl_module.specs.Statements.{began, block_closed, continuing_ended, goes_nowhere, if_ended, in_function, inside, loop_ended, loop_on, may_fall_off, outside_of, return_ended, switch_ended, with_clause, with_default};
+ghost use Rattle.wgsl_module.specs.Statements.{began, block_closed, continuing_ended, goes_nowhere, if_ended, in_function, inside, loop_ended, loop_on, may_fall_off, outside_of, return_ended, switch_ended, with_clause, with_default, word_of};
 ghost use Rattle.wgsl_module.specs.Told.{broken};
 ghost use Rattle.wgsl_module.specs.typing.Faults.{last_of};
 
@@ -68,7 +68,7 @@ impl Control {
 
     /// Does what an event says whose last token is of this kind.
     fn step(&mut self, word: Kind, event: Event) -> Result<(), AllocError>
-        ensures frames { IfOk result (λ u. statements self.new.flow ≡ frames_by word event.mark self.old.around (statements self.old.flow)) }
+        ensures frames { IfOk result (λ u. statements self.new.flow ≡ frames_by word event.mark event.at self.old.around (statements self.old.flow)) }
         ensures around { IfOk result (λ u. self.new.around ≡ around_by word event.mark (statements self.old.flow) self.old.around) }
         ensures has_result { IfOk result (λ u. self.new.has_result ≡ has_result_by event.mark self.old.has_result) }
         ensures told { IfOk result (λ u. map broken self.new.faults.items ≡ told_by event.mark event.at (state self.old)) }
@@ -96,20 +96,19 @@ impl Control {
             }
             Mark::Returned => self.flow.push(Frame::Returned),
             Mark::Return => self.close_return(event.at),
-            Mark::Begin => self.begin(word),
+            Mark::Begin => self.begin(word, event.at),
             Mark::Open => self.flow.open_block(word),
             Mark::Block => self.close_block(event.at),
             Mark::Condition => self.flow.put_condition(),
             Mark::BreakIf => self.flow.end(Behaviour::MAY_BREAK),
             Mark::Else => self.flow.close_else(),
             Mark::If => self.close_if(),
-            Mark::While | Mark::For | Mark::Loop => self.close_loop(event.at),
+            Mark::While | Mark::For | Mark::Loop => self.close_loop(),
             Mark::Continuing => self.close_continuing(),
             Mark::Selector => self.flow.open_switch(),
             Mark::Case => self.flow.close_clause(),
-            Mark::Default => self.close_default(event.at),
             Mark::DefaultSelector => self.put_default(event.at),
-            Mark::Switch => self.close_switch(event.at),
+            Mark::Switch => self.close_switch(),
             Mark::Function => self.close_function(),
             _ => Ok(()),
         }
@@ -160,8 +159,8 @@ impl Control {
     }
 
     /// The word of a statement that has blocks, or what stands in front of the body of a function.
-    fn begin(&mut self, word: Kind) -> Result<(), AllocError>
-        ensures frames { IfOk result (λ u. statements self.new.flow ≡ began word self.old.around (statements self.old.flow)) }
+    fn begin(&mut self, word: Kind, count: usize) -> Result<(), AllocError>
+        ensures frames { IfOk result (λ u. statements self.new.flow ≡ began word count self.old.around (statements self.old.flow)) }
         ensures around { IfOk result (λ u. self.new.around ≡ inside word self.old.around) }
         ensures has_result { self.new.has_result ≡ self.old.has_result }
         ensures faults { self.new.faults ≡ self.old.faults }
@@ -186,20 +185,20 @@ impl Control {
             _ => return Ok(()),
         };
         self.around = inside;
-        self.flow.push(Frame::Begun(word, outside, false))
+        self.flow.push(Frame::Begun(count, outside, false))
     }
 
-    /// The statement on top is read. Returns whether it has a condition.
-    fn leave(&mut self) -> Option<bool>
-        ensures begun { result ≡ option_map (λ b. b.2) (begun_on (statements self.old.flow)) }
+    /// The statement on top is read. Returns where its word is, and whether it has a condition.
+    fn leave(&mut self) -> Option<(usize, bool)>
+        ensures begun { result ≡ option_map (λ b. (b.0, b.2)) (begun_on (statements self.old.flow)) }
         ensures frames { statements self.new.flow ≡ below (statements self.old.flow) }
         ensures around { self.new.around ≡ outside_of (begun_on (statements self.old.flow)) self.old.around }
         ensures has_result { self.new.has_result ≡ self.old.has_result }
         ensures faults { self.new.faults ≡ self.old.faults }
     {
-        let (_, outside, has_condition) = self.flow.leave()?;
+        let (word, outside, has_condition) = self.flow.leave()?;
         self.around = outside;
-        Some(has_condition)
+        Some((word, has_condition))
     }
 
     /// `break;`, `continue;`
@@ -283,19 +282,20 @@ impl Control {
     }
 
     /// `while`, `for`, `loop`: one that no way leads out of is wrong.
-    fn close_loop(&mut self, count: usize) -> Result<(), AllocError>
+    fn close_loop(&mut self) -> Result<(), AllocError>
         ensures frames { IfOk result (λ u. statements self.new.flow ≡ loop_ended (statements self.old.flow)) }
         ensures around { IfOk result (λ u. self.new.around ≡ outside_of (begun_on (below (statements self.old.flow))) self.old.around) }
         ensures told { IfOk result (λ u. map broken self.new.faults.items
-            ≡ told_if (goes_nowhere (loop_on (statements self.old.flow))) Rule.Behaviour (last_of count) (map broken self.old.faults.items)) }
+            ≡ told_if (goes_nowhere (loop_on (statements self.old.flow))) Rule.Behaviour (last_of (word_of (begun_on (below (statements self.old.flow)))))
+            (map broken self.old.faults.items)) }
         ensures has_result { self.new.has_result ≡ self.old.has_result }
     {
         let body = self.flow.take_body();
-        let Some(has_condition) = self.leave() else {
+        let Some((word, has_condition)) = self.leave() else {
             return Ok(());
         };
         let behaviour = body.looped(has_condition);
-        let place = Place::last_of(count);
+        let place = Place::last_of(word);
         self.tell_if(
             behaviour.never_ends(),
             Rule::Behaviour,
@@ -334,28 +334,21 @@ impl Control {
         )
     }
 
-    /// `default { }`
-    fn close_default(&mut self, count: usize) -> Result<(), AllocError>
-        ensures frames { IfOk result (λ u. statements self.new.flow ≡ with_default (with_clause (statements self.old.flow))) }
-        ensures told { IfOk result (λ u. map broken self.new.faults.items
-            ≡ told_if (clauses_on (with_clause (statements self.old.flow))).1 Rule.Switch (last_of count) (map broken self.old.faults.items)) }
-        ensures around { self.new.around ≡ self.old.around }
-        ensures has_result { self.new.has_result ≡ self.old.has_result }
-    {
-        self.flow.close_clause()?;
-        self.put_default(count)
-    }
-
-    fn close_switch(&mut self, count: usize) -> Result<(), AllocError>
+    /// A `switch` without a `default` is wrong.
+    fn close_switch(&mut self) -> Result<(), AllocError>
         ensures frames { IfOk result (λ u. statements self.new.flow ≡ switch_ended (statements self.old.flow)) }
         ensures around { IfOk result (λ u. self.new.around ≡ outside_of (begun_on (below (statements self.old.flow))) self.old.around) }
         ensures told { IfOk result (λ u. map broken self.new.faults.items
-            ≡ told_if (not (clauses_on (statements self.old.flow)).1) Rule.Switch (last_of count) (map broken self.old.faults.items)) }
+            ≡ told_if (not (clauses_on (statements self.old.flow)).1) Rule.Switch (last_of (word_of (begun_on (below (statements self.old.flow)))))
+            (map broken self.old.faults.items)) }
         ensures has_result { self.new.has_result ≡ self.old.has_result }
     {
         let (clauses, has_default) = self.flow.take_clauses();
-        self.leave();
-        let place = Place::last_of(count);
+        let word = match self.leave() {
+            Some((word, _)) => word,
+            None => 0,
+        };
+        let place = Place::last_of(word);
         self.tell_if(
             !has_default,
             Rule::Switch,

@@ -1,8 +1,9 @@
 // Declarations, each behind those that it needs.
 ghost use Rattle.std.specs.Prelude.{◌≡◌, IfOk, map, option_map, slice_get};
 ghost use Rattle.wgsl_module.specs.Declarations.{written};
-ghost use Rattle.wgsl_module.specs.Noted.{Comes, Keeps, reading, source, state};
-ghost use Rattle.wgsl_module.specs.Runs.{AreDeclarations, Declares, Ends, IsDeclaration};
+ghost use Rattle.wgsl_module.specs.Noted.{Comes};
+ghost use Rattle.wgsl_module.specs.Runs.{AreDeclarations, Declares, Directs, Ends, IsDeclaration};
+ghost use Rattle.wgsl_module.specs.States.{Keeps, KeepsButExtensions, KeepsButStructs, source, state};
 
 use crate::attribute::{Attributes, Owner};
 use crate::checker::{Checker, Interface};
@@ -11,15 +12,15 @@ use crate::typing::extension::is_required;
 use crate::typing::fault::Rule;
 use crate::typing::known::{Known, Typed};
 use std::alloc::AllocError;
-use wgsl_forms::declare::Declaration as Form;
 use wgsl_reader::mark::Mark;
 use wgsl_reader::token::Token;
 use wgsl_source::fault::{Cause, ExtensionKind};
+use wgsl_standard::forms::declare::Declaration as Form;
 
 impl<'t> Checker<'t> {
     /// Reads the declarations with these indices.
     pub fn declare_in(&mut self, tokens: &[Token], order: &[usize]) -> Result<(), AllocError>
-        ensures declarations { IfOk result (λ u. AreDeclarations tokens.now (map written self.old.declarations.items) order.now (reading (state self.old)) (reading (state self.new))) }
+        ensures declarations { IfOk result (λ u. AreDeclarations tokens.now (map written self.old.declarations.items) order.now (state self.old) (state self.new)) }
         ensures source { IfOk result (λ u. source (state self.new) ≡ source (state self.old)) }
     {
         for index in order {
@@ -30,14 +31,13 @@ impl<'t> Checker<'t> {
 
     /// Reads a declaration behind those that it needs.
     fn declare(&mut self, tokens: &[Token], index: usize) -> Result<(), AllocError>
-        ensures declaration { IfOk result (λ u. IsDeclaration tokens.now (option_map written (slice_get self.old.declarations.items index)) (reading (state self.old)) (reading (state self.new))) }
+        ensures declaration { IfOk result (λ u. IsDeclaration tokens.now index (option_map written (slice_get self.old.declarations.items index)) (state self.old) (state self.new)) }
         ensures source { IfOk result (λ u. source (state self.new) ≡ source (state self.old)) }
     {
         self.clear();
         let Some(declaration) = self.declaration(index) else {
             return Ok(());
         };
-        self.begin_declaration(declaration)?;
         let known = self.read_declaration(tokens, index, declaration)?;
         self.expressions.put_known(index, Some(known));
         Ok(())
@@ -45,7 +45,8 @@ impl<'t> Checker<'t> {
 
     /// Directives enable extensions, and filter diagnostics together: the attributes of others filter on their own.
     fn begin_declaration(&mut self, declaration: Declaration<'t>) -> Result<(), AllocError>
-        ensures { IfOk result (λ u. Keeps (state self.old) (state self.new)) }
+        ensures directive { IfOk result (λ u. Directs declaration.entry.kind (state self.old) (state self.new)) }
+        ensures source { IfOk result (λ u. source (state self.new) ≡ source (state self.old)) }
     {
         match declaration.kind {
             DeclarationKind::Enable | DeclarationKind::Directive => self.tell_extensions(
@@ -60,7 +61,7 @@ impl<'t> Checker<'t> {
 
     /// Enables extensions, and says which names are none.
     fn tell_extensions(&mut self, declaration: Declaration<'t>) -> Result<(), AllocError>
-        ensures { Keeps (state self.old) (state self.new) }
+        ensures { KeepsButExtensions (state self.old) (state self.new) }
     {
         for event in declaration.events {
             let name = self.word(event.at);
@@ -93,6 +94,7 @@ impl<'t> Checker<'t> {
         ensures declaration { IfOk result (λ k. Declares tokens.now declaration.entry.kind declaration.entry.events.now (state self.old) (state self.new)) }
         ensures source { IfOk result (λ k. source (state self.new) ≡ source (state self.old)) }
     {
+        self.begin_declaration(declaration)?;
         let attributes = self.read_events(tokens, declaration)?;
         self.end_declaration(index, declaration, attributes)
     }
@@ -162,31 +164,34 @@ impl<'t> Checker<'t> {
                 self.assert()?;
                 Ok(Known::Faulty)
             }
-            DeclarationKind::Struct | DeclarationKind::Function => {
-                self.read_interface(index, declaration.kind, named)
-            }
+            DeclarationKind::Struct => self.read_struct(index, named),
+            DeclarationKind::Function => self.read_function(index, named),
             DeclarationKind::Enable | DeclarationKind::Directive | DeclarationKind::Misread => {
                 Ok(Known::Faulty)
             }
         }
     }
 
-    /// What a struct or a function with the fields that are read stands for.
-    fn read_interface(
-        &mut self,
-        index: usize,
-        kind: DeclarationKind,
-        named: usize,
-    ) -> Result<Known, AllocError>
-        ensures { IfOk result (λ k. Keeps (state self.old) (state self.new)) }
+    /// What a struct with the members that are read stands for.
+    fn read_struct(&mut self, index: usize, named: usize) -> Result<Known, AllocError>
+        ensures { KeepsButStructs (state self.old) (state self.new) }
     {
         let Some(interface) = self.interface.take() else {
             return Ok(Known::Faulty);
         };
-        let known = match kind {
-            DeclarationKind::Struct => self.structure(named, &interface.fields)?,
-            _ => self.signature(named, &interface)?,
+        let known = self.structure(named, &interface.fields)?;
+        self.keep(index, interface);
+        Ok(known)
+    }
+
+    /// What a function with the parameters and the result that are read stands for.
+    fn read_function(&mut self, index: usize, named: usize) -> Result<Known, AllocError>
+        ensures { Keeps (state self.old) (state self.new) }
+    {
+        let Some(interface) = self.interface.take() else {
+            return Ok(Known::Faulty);
         };
+        let known = self.signature(named, &interface)?;
         self.keep(index, interface);
         Ok(known)
     }

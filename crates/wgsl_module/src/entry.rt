@@ -1,5 +1,5 @@
 // What entry points reach: stages, bindings (WGSL, "Entry Points", "Function Calls"). Only tested.
-ghost use Rattle.wgsl_module.specs.Noted.{Keeps, state};
+ghost use Rattle.wgsl_module.specs.States.{Keeps, state};
 
 use crate::attribute::Name;
 use crate::checker::{Checker, Interface};

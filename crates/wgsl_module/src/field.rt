@@ -1,6 +1,7 @@
 // Members of structs, parameters and results of functions.
 ghost use Rattle.std.specs.Prelude.{IfOk};
-ghost use Rattle.wgsl_module.specs.Noted.{DeclaresField, DeclaresResult, Keeps, state};
+ghost use Rattle.wgsl_module.specs.Noted.{DeclaresField, DeclaresResult};
+ghost use Rattle.wgsl_module.specs.States.{Keeps, KeepsButStructs, state};
 
 use crate::attribute::{Attributes, Name};
 use crate::checker::{Checker, Interface};
@@ -13,9 +14,9 @@ use std::alloc::AllocError;
 use std::collections::BTreeMap;
 use wgsl_core::ty::form::Form;
 use wgsl_core::ty::{StructMemberType, StructType, Type};
-use wgsl_forms::declare::is_const_type;
-use wgsl_forms::lists::are_parameters;
-use wgsl_forms::refusal::Refusal;
+use wgsl_standard::forms::declare::is_const_type;
+use wgsl_standard::forms::lists::are_parameters;
+use wgsl_standard::forms::refusal::Refusal;
 
 /// A member of a struct, a parameter or the result of a function.
 #[derive(Drop)]
@@ -84,7 +85,7 @@ impl<'t> Checker<'t> {
 
     /// What a struct with these members stands for.
     pub fn structure(&mut self, named: usize, fields: &[Field]) -> Result<Known, AllocError>
-        ensures { Keeps (state self.old) (state self.new) }
+        ensures { KeepsButStructs (state self.old) (state self.new) }
     {
         let names = self.names_of(fields)?;
         let mut members = Vec::new(self.expressions.alloc);
@@ -110,7 +111,7 @@ impl<'t> Checker<'t> {
         whole: StructType,
         members: BTreeMap<&'t str, usize>,
     ) -> Result<Known, AllocError>
-        ensures { Keeps (state self.old) (state self.new) }
+        ensures { KeepsButStructs (state self.old) (state self.new) }
     {
         let made = short(self.expressions.alloc, &whole)?;
         let (mut has_long_array, mut is_sized, mut depth) = (false, true, 0);
@@ -242,37 +243,56 @@ impl<'t> Checker<'t> {
         ensures { Keeps (state self.old) (state self.new) }
     {
         let attributes = interface.attributes;
-        let has_names = self.names_of(&interface.fields)?.is_some();
-        let mut parameters = Vec::new(self.expressions.alloc);
-        for field in &interface.fields {
-            if let Some(ty) = self.parameter(field)? {
-                parameters.push(ty)?;
-            }
-        }
         let result = match &interface.result {
             Some(field) => self.returned(field)?,
             None => None,
         };
-        if interface.result.is_some() && result.is_none() {
-            return Ok(Known::Faulty);
-        }
-        let must_use = self.has(attributes, Name::MustUse);
-        let is_entry_point = self.has(attributes, Name::Vertex)
-            || self.has(attributes, Name::Fragment)
-            || self.has(attributes, Name::Compute);
-        if must_use && result.is_none() {
-            self.tell_name(Rule::Attribute, named, "has no value that can be used")?;
-            return Ok(Known::Faulty);
-        }
-        if !has_names || !attributes.are_fine || parameters.len() != interface.fields.len() {
-            return Ok(Known::Faulty);
-        }
-        Ok(Known::Function(Signature {
-            parameters,
+        let mut signature = Signature {
+            parameters: Vec::new(self.expressions.alloc),
             result,
-            must_use,
-            is_entry_point,
-        }))
+            must_use: self.has(attributes, Name::MustUse),
+            is_entry_point: self.has(attributes, Name::Vertex)
+                || self.has(attributes, Name::Fragment)
+                || self.has(attributes, Name::Compute),
+        };
+        match self.take_parameters(named, interface, &mut signature) {
+            Ok(true) => Ok(Known::Function(signature)),
+            Ok(false) => {
+                drop(signature);
+                Ok(Known::Faulty)
+            }
+            Err(error) => {
+                drop(signature);
+                Err(error)
+            }
+        }
+    }
+
+    /// Takes the parameters of a function. Returns whether neither they nor its result have a fault.
+    fn take_parameters(
+        &mut self,
+        named: usize,
+        interface: &Interface,
+        signature: &mut Signature,
+    ) -> Result<bool, AllocError>
+        ensures { Keeps (state self.old) (state self.new) }
+    {
+        let has_names = self.names_of(&interface.fields)?.is_some();
+        for field in &interface.fields {
+            if let Some(ty) = self.parameter(field)? {
+                signature.parameters.push(ty)?;
+            }
+        }
+        let has_result = signature.result.is_some();
+        if !has_result && interface.result.is_some() {
+            return Ok(false);
+        }
+        if signature.must_use && !has_result {
+            let message = "has no value that can be used";
+            return self.expressions.no(Rule::Attribute, named, message);
+        }
+        let are_fine = has_names && interface.attributes.are_fine;
+        Ok(are_fine && signature.parameters.len() == interface.fields.len())
     }
 
     fn parameter(&mut self, field: &Field) -> Result<Option<Type>, AllocError>

@@ -181,8 +181,8 @@ impl Flow {
         }
     }
 
-    /// Takes the statement on top: its word, what is around it, and whether it has a condition.
-    pub fn leave(&mut self) -> Option<(Kind, Around, bool)>
+    /// Takes the statement on top: where its word is, what is around it, and whether it has a condition.
+    pub fn leave(&mut self) -> Option<(usize, Around, bool)>
         ensures begun { result ≡ begun_on (statements self.old) }
         ensures rest { statements self.new ≡ below (statements self.old) }
     {

@@ -3,7 +3,6 @@ ghost use Rattle.std.specs.Prelude.{◌≡◌};
 ghost use Rattle.wgsl_module.specs.Statements.{broken_off, continued};
 
 use crate::behaviour::Behaviour;
-use wgsl_reader::kind::Kind;
 
 /// What is around a statement.
 #[derive(Clone, Copy)]
@@ -16,8 +15,8 @@ pub struct Around {
 /// What is read of statements and isn't yet part of another.
 #[derive(Clone, Copy)]
 pub enum Frame {
-    /// A statement with blocks, by its word; what is around it; whether it has a condition.
-    Begun(Kind, Around, bool),
+    /// A statement with blocks, by the number of tokens up to its word; what is around it; whether it has a condition.
+    Begun(usize, Around, bool),
     /// A block that is open, by what the statements in it do so far.
     Block(Behaviour),
     /// A block that is closed.

@@ -1,6 +1,7 @@
 // Overrides and variables of a module (WGSL, "Value Declarations", "Variable Declarations"), and the numbers that tell them apart.
 ghost use Rattle.std.specs.Prelude.{IfOk};
-ghost use Rattle.wgsl_module.specs.Noted.{DeclaresOverride, DeclaresVariable, Keeps, state};
+ghost use Rattle.wgsl_module.specs.Noted.{DeclaresOverride, DeclaresVariable};
+ghost use Rattle.wgsl_module.specs.States.{Keeps, state};
 
 use crate::attribute::{Attributes, Name};
 use crate::checker::Checker;
@@ -11,8 +12,8 @@ use crate::typing::known::{Part, Typed};
 use crate::typing::stage::Stage;
 use crate::typing::structs::behind;
 use std::alloc::AllocError;
-use wgsl_forms::declare::{Declaration as Form, override_without_value};
-use wgsl_forms::variable::holds;
+use wgsl_standard::forms::declare::{Declaration as Form, override_without_value};
+use wgsl_standard::forms::variable::holds;
 use wgsl_syntax::address::{AccessMode, AddressSpace};
 
 /// What stands between `var<` and `>`, with an access mode if that is said; None if it has a fault.

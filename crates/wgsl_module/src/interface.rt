@@ -1,5 +1,5 @@
 // What entry points take and return (WGSL, "Entry Points", "Built-in Values", "Input-output Locations"). Only tested.
-ghost use Rattle.wgsl_module.specs.Noted.{Keeps, state};
+ghost use Rattle.wgsl_module.specs.States.{Keeps, state};
 
 use crate::attribute::{Attributes, Name};
 use crate::checker::Checker;

@@ -1,8 +1,8 @@
 // What the grammar doesn't read.
-ghost use Rattle.std.specs.Prelude.{◌≡◌, ℕ, IfOk, List, map};
+ghost use Rattle.std.specs.Prelude.{◌≡◌, ℕ, [], IfOk, List, map};
 ghost use Rattle.wgsl_module.specs.Declarations.{written};
-ghost use Rattle.wgsl_module.specs.Noted.{Reading, state};
 ghost use Rattle.wgsl_module.specs.Runs.{IsModule};
+ghost use Rattle.wgsl_module.specs.States.{State, state};
 ghost use Rattle.wgsl_module.specs.Told.{broken, unread};
 
 use crate::checker::Checker;
@@ -51,8 +51,9 @@ fn unread(alloc: Global, text: Text<'_>, misread: Misread) -> Result<Fault, Allo
 impl<'t> Checker<'t> {
     /// Declares the names of what the grammar doesn't read, which are faulty.
     pub fn declare_misread(&mut self, all: &[Misread]) -> Result<(), AllocError>
-        ensures module { IfOk result (λ u. (cycles : List ℕ) (tokens : List Token) (s r : Reading)
+        ensures module { IfOk result (λ u. (cycles : List ℕ) (tokens : List Token) (s r : State)
             → IsModule cycles tokens (map written self.new.declarations.items) s r → IsModule cycles tokens (map written self.old.declarations.items) s r) }
+        ensures all { IfOk result (λ u. all.now ≡ [] → self.new.declarations.items ≡ self.old.declarations.items) }
         ensures stack { (state self.new).stack ≡ (state self.old).stack }
     {
         for misread in all {

@@ -1,11 +1,12 @@
 // The check of a module.
-ghost use Rattle.std.specs.Prelude.{◌≡◌, ℕ, [], IfOk, List, false, length, map, option_map, slice_get, true};
+ghost use Rattle.std.specs.Prelude.{◌≡◌, ◌≢◌, ℕ, [], IfOk, List, false, length, map, option_map, slice_get, true};
 ghost use Rattle.wgsl_module.specs.Checked.{AreTyped, IsRead, TellsReading, are_known, told_of_reading};
 ghost use Rattle.wgsl_module.specs.Declarations.{written, written_in};
-ghost use Rattle.wgsl_module.specs.Noted.{Keeps, Reading, reading, source, state};
 ghost use Rattle.wgsl_module.specs.Named.{named_by};
-ghost use Rattle.wgsl_module.specs.Order.{HasEach, HaveNames, IsBehind, IsNamed, cycling, name_at};
-ghost use Rattle.wgsl_module.specs.Runs.{AreDeclarations, HasParts, HasRuns, IsModule, ReadsFrom};
+ghost use Rattle.wgsl_module.specs.Order.{HasEach, HaveNames, IsBehind, IsNamed, KeepNames, cycling, name_at};
+ghost use Rattle.wgsl_module.specs.Recursion.{HasCallOrder, HasNoRecursion};
+ghost use Rattle.wgsl_module.specs.Runs.{AreDeclarations, AreNamed, HasParts, HasRuns, IsModule, ReadsFrom};
+ghost use Rattle.wgsl_module.specs.States.{Keeps, KeepsButNames, State, source, state};
 ghost use Rattle.wgsl_module.specs.Told.{AreTold, broken};
 ghost use Rattle.wgsl_reader.specs.declared.token.Token.{Token};
 
@@ -19,7 +20,7 @@ use crate::typing::fault::{Fault, Place, Rule};
 use crate::typing::known::{Known, Part};
 use crate::typing::scope::Bound;
 use crate::untyped::{are_known, tell_untyped};
-use crate::walk::{Link, Walk};
+use crate::walk::Link;
 use std::alloc::{AllocError, Global};
 use std::mem::replace;
 use wgsl_reader::kind::Kind;
@@ -43,6 +44,15 @@ pub struct Checked {
     pub locals: Vec<Bound>,
 }
 
+/// Which declarations lead to themselves, perhaps through others, and where.
+#[derive(Drop)]
+struct Cycles {
+    /// Those that name themselves.
+    named: Vec<(usize, Place)>,
+    /// The functions that call themselves.
+    called: Vec<(usize, Place)>,
+}
+
 /// Checks a module, which may use and shadow these names. The faults are in the order of the text.
 pub fn check<'t>(
     alloc: Global,
@@ -53,6 +63,7 @@ pub fn check<'t>(
     ensures read { IfOk result (λ c. c.faults.items ≡ [] → IsRead c.tokens.items) }
     ensures typed { IfOk result (λ c. are_known given.entry.items ≡ true → c.faults.items ≡ [] → AreTyped c.parts.items) }
     ensures parts { IfOk result (λ c. HasParts text.now c.tokens.items c.faults.items c.parts.items) }
+    ensures calls { IfOk result (λ c. c.faults.items ≡ [] → HasNoRecursion text.now c.tokens.items) }
 {
     let tokens = tokens(alloc, text.as_bytes())?;
     let grammar = read_module(alloc, &tokens)?;
@@ -76,6 +87,8 @@ fn read_all<'t>(
     ensures told { IfOk result (λ c. AreTold (told_of_reading tokens.now grammar.now.events.items grammar.now.misread.items) c.faults.items) }
     ensures parts { IfOk result (λ c. (cycles : List ℕ) × HasRuns text.now tokens.now grammar.now.events.items cycles c.parts.items
         × (c.faults.items ≡ [] → cycles ≡ [])) }
+    ensures calls { IfOk result (λ c. grammar.now.misread.items ≡ [] → c.faults.items ≡ []
+        → HasCallOrder [] text.now tokens.now (written_in false grammar.now.events.items)) }
 {
     let mut checker = Checker::none(alloc, text, tokens);
     let checked = checker.checked(text, tokens, grammar, given);
@@ -139,6 +152,8 @@ impl<'t> Checker<'t> {
     ) -> Result<Checked, AllocError>
         ensures told { IfOk result (λ c. AreTold (told_of_reading tokens.now grammar.now.events.items grammar.now.misread.items) c.faults.items) }
         ensures parts { IfOk result (λ c. ReadsFrom tokens.now grammar.now.events.items c.faults.items (state self.old) c.parts.items) }
+        ensures calls { IfOk result (λ c. grammar.now.misread.items ≡ [] → c.faults.items ≡ []
+            → HasCallOrder [] self.old.expressions.text.now self.old.expressions.tokens.now (written_in false grammar.now.events.items)) }
     {
         self.read(tokens, grammar, given)?;
         let found = self.found(text, tokens, grammar)?;
@@ -152,7 +167,9 @@ impl<'t> Checker<'t> {
         grammar: &'t Module,
         given: Vec<(&'t str, Known)>,
     ) -> Result<(), AllocError>
-        ensures { IfOk result (λ u. ReadsFrom tokens.now grammar.now.events.items self.new.expressions.faults.items (state self.old) (state self.new).stack.parts) }
+        ensures parts { IfOk result (λ u. ReadsFrom tokens.now grammar.now.events.items self.new.expressions.faults.items (state self.old) (state self.new).stack.parts) }
+        ensures calls { IfOk result (λ u. grammar.now.misread.items ≡ [] → self.new.expressions.faults.items ≡ []
+            → HasCallOrder [] self.old.expressions.text.now self.old.expressions.tokens.now (written_in false grammar.now.events.items)) }
     {
         match self.declare_written(grammar) {
             Ok(()) => {}
@@ -167,8 +184,9 @@ impl<'t> Checker<'t> {
 
     /// Finds the declarations of a module, and the names of what the grammar doesn't read.
     fn declare_written(&mut self, grammar: &'t Module) -> Result<(), AllocError>
-        ensures module { IfOk result (λ u. (cycles : List ℕ) (tokens : List Token) (s r : Reading)
+        ensures module { IfOk result (λ u. (cycles : List ℕ) (tokens : List Token) (s r : State)
             → IsModule cycles tokens (map written self.new.declarations.items) s r → IsModule cycles tokens (written_in false grammar.now.events.items) s r) }
+        ensures all { IfOk result (λ u. grammar.now.misread.items ≡ [] → map written self.new.declarations.items ≡ written_in false grammar.now.events.items) }
         ensures stack { (state self.new).stack ≡ (state self.old).stack }
     {
         self.declarations = declarations(self.expressions.alloc, &grammar.events)?;
@@ -209,14 +227,17 @@ impl<'t> Checker<'t> {
         tokens: &[Token],
         given: Vec<(&'t str, Known)>,
     ) -> Result<(), AllocError>
-        ensures { IfOk result (λ u. (cycles : List ℕ) × IsModule cycles tokens.now (map written self.old.declarations.items) (reading (state self.old)) (reading (state self.new))
+        ensures module { IfOk result (λ u. (before : State) × (cycles : List ℕ) × KeepsButNames (state self.old) before
+            × IsModule cycles tokens.now (map written self.old.declarations.items) before (state self.new)
             × (self.new.expressions.faults.items ≡ [] → cycles ≡ [])) }
+        ensures calls { IfOk result (λ u. self.new.expressions.faults.items ≡ []
+            → HasCallOrder [] self.old.expressions.text.now self.old.expressions.tokens.now (map written self.old.declarations.items)) }
     {
         let cycles = self.declare_all(tokens, given)?;
         self.read_bodies(tokens)?;
-        self.check_calls()?;
         self.check_entry_points()?;
-        self.tell_cycle(&cycles)?;
+        self.tell_calls(&cycles.called)?;
+        self.tell_cycle(&cycles.named)?;
         Ok(())
     }
 
@@ -224,6 +245,7 @@ impl<'t> Checker<'t> {
     fn tell_cycle(&mut self, cycles: &[(usize, Place)]) -> Result<(), AllocError>
         ensures reading { Keeps (state self.old) (state self.new) }
         ensures told { IfOk result (λ u. self.new.expressions.faults.items ≡ [] → cycling cycles.now ≡ []) }
+        ensures kept { IfOk result (λ u. self.new.expressions.faults.items ≡ [] → self.old.expressions.faults.items ≡ []) }
     {
         match cycles.first() {
             Some((_, place)) if self.expressions.faults.is_empty() => self
@@ -233,28 +255,37 @@ impl<'t> Checker<'t> {
         }
     }
 
-    /// Reads the declarations, each behind those that it needs. Returns which need themselves, and where.
+    /// Reads the declarations, each behind those that it needs. Returns which need or call themselves, and where.
     fn declare_all(
         &mut self,
         tokens: &[Token],
         given: Vec<(&'t str, Known)>,
-    ) -> Result<Vec<(usize, Place)>, AllocError>
-        ensures declarations { IfOk result (λ cycles. (order : List ℕ) × HasEach 0 (length (map written self.old.declarations.items)) order
-            × IsBehind (named_by (reading (state self.old)) (map written self.old.declarations.items)) (cycling cycles.items) order
-            × AreDeclarations tokens.now (map written self.old.declarations.items) order (reading (state self.old)) (reading (state self.new))) }
+    ) -> Result<Cycles, AllocError>
+        ensures declarations { IfOk result (λ cycles. (before : State) × (order : List ℕ) × KeepsButNames (state self.old) before
+            × AreNamed before (map written self.old.declarations.items)
+            × HasEach 0 (length (map written self.old.declarations.items)) order
+            × IsBehind (named_by before.stack.context (map written self.old.declarations.items)) (cycling cycles.named.items) order
+            × AreDeclarations tokens.now (map written self.old.declarations.items) order before (state self.new)) }
+        ensures calls { IfOk result (λ cycles. HasCallOrder (cycling cycles.called.items) self.old.expressions.text.now self.old.expressions.tokens.now
+            (map written self.old.declarations.items)) }
         ensures source { IfOk result (λ u. source (state self.new) ≡ source (state self.old)) }
     {
         self.name_all()?;
-        let named = self.walk(0, self.declarations.len(), Link::Name)?;
+        let count = self.declarations.len();
+        let named = self.walk(0, count, Link::Name)?;
+        let called = self.walk(0, count, Link::Call)?;
         self.give_all(given)?;
         self.declare_in(tokens, &named.order)?;
-        let Walk { cycles, .. } = named;
-        Ok(cycles)
+        Ok(Cycles {
+            named: named.cycles,
+            called: called.cycles,
+        })
     }
 
     /// Gives these names their meanings, unless they have others.
     fn give_all(&mut self, given: Vec<(&'t str, Known)>) -> Result<(), AllocError>
-        ensures { Keeps (state self.old) (state self.new) }
+        ensures state { KeepsButNames (state self.old) (state self.new) }
+        ensures names { KeepNames self.old self.new }
     {
         for (name, known) in given {
             self.give(name, known)?;
@@ -263,15 +294,24 @@ impl<'t> Checker<'t> {
     }
 
     /// Says which functions call themselves.
-    fn check_calls(&mut self) -> Result<(), AllocError>
-        ensures { Keeps (state self.old) (state self.new) }
+    fn tell_calls(&mut self, cycles: &[(usize, Place)]) -> Result<(), AllocError>
+        ensures reading { Keeps (state self.old) (state self.new) }
+        ensures told { IfOk result (λ u. self.new.expressions.faults.items ≡ [] → cycling cycles.now ≡ []) }
     {
-        let called = self.walk(0, self.declarations.len(), Link::Call)?;
-        for (callee, place) in &called.cycles {
-            self.tell(Rule::Cycle, *place, "this function calls itself")?;
-            self.refer(*callee)?;
+        for (callee, place) in cycles {
+            self.tell_call(*callee, *place)?;
         }
         Ok(())
+    }
+
+    /// Says that a function calls itself.
+    fn tell_call(&mut self, callee: usize, place: Place) -> Result<(), AllocError>
+        ensures reading { Keeps (state self.old) (state self.new) }
+        ensures told { IfOk result (λ u. self.new.expressions.faults.items ≢ []) }
+    {
+        self.expressions
+            .tell(Rule::Cycle, place, "this function calls itself")?;
+        self.refer(callee)
     }
 
     pub fn declaration(&self, index: usize) -> Option<Declaration<'t>>
@@ -289,7 +329,8 @@ impl<'t> Checker<'t> {
 
     /// Adds to the last fault where a declaration is.
     fn refer(&mut self, index: usize) -> Result<(), AllocError>
-        ensures { state self.new ≡ state self.old }
+        ensures state { state self.new ≡ state self.old }
+        ensures faults { length self.new.expressions.faults.items ≡ length self.old.expressions.faults.items }
     {
         match self.named(index) {
             Some(named) => self.expressions.refer(named),
@@ -299,7 +340,7 @@ impl<'t> Checker<'t> {
 
     /// Gives the declarations their names.
     fn name_all(&mut self) -> Result<(), AllocError>
-        ensures reading { Keeps (state self.old) (state self.new) }
+        ensures state { KeepsButNames (state self.old) (state self.new) }
         ensures names { IfOk result (λ u. HaveNames self.new (map written self.new.declarations.items)) }
     {
         self.expressions.names.clear();
@@ -317,7 +358,7 @@ impl<'t> Checker<'t> {
 
     /// Gives a declaration its name. If another one has it, that one keeps it.
     fn name(&mut self, index: usize) -> Result<(), AllocError>
-        ensures reading { Keeps (state self.old) (state self.new) }
+        ensures state { KeepsButNames (state self.old) (state self.new) }
         ensures names { IfOk result (λ u. IsNamed self.old (name_at self.old.declarations.items index) index self.new) }
     {
         let Some(named) = self.named(index) else {
@@ -339,7 +380,8 @@ impl<'t> Checker<'t> {
 
     /// Gives a name this meaning, unless it has another one.
     fn give(&mut self, name: &'t str, known: Known) -> Result<(), AllocError>
-        ensures { Keeps (state self.old) (state self.new) }
+        ensures state { KeepsButNames (state self.old) (state self.new) }
+        ensures names { KeepNames self.old self.new }
     {
         let index = self.expressions.declared.len();
         self.expressions.declared.push(Named {

@@ -1,6 +1,7 @@
 // Statements without blocks (WGSL, "Statements").
-ghost use Rattle.std.specs.Prelude.{IfOk};
-ghost use Rattle.wgsl_module.specs.Noted.{AssignsIf, Keeps, Uses, state};
+ghost use Rattle.std.specs.Prelude.{◌∷◌, [], IfOk};
+ghost use Rattle.wgsl_module.specs.Noted.{AssignsIf, Uses};
+ghost use Rattle.wgsl_module.specs.States.{Keeps, noted, state};
 
 use crate::checker::Checker;
 use crate::typing::expression::shown;
@@ -11,12 +12,12 @@ use crate::typing::structs::behind;
 use crate::typing::value::Value;
 use std::alloc::AllocError;
 use wgsl_constants::constant::Constant;
-use wgsl_forms::assign::{assign_by, binary_operator, increment};
-use wgsl_forms::declare::discard;
-use wgsl_forms::flow::return_value;
-use wgsl_forms::refusal::Refusal;
 use wgsl_reader::kind::Kind;
-use wgsl_syntax::operator::AssignmentOperator;
+use wgsl_standard::forms::assign::{assign_by, binary_operator, increment};
+use wgsl_standard::forms::declare::discard;
+use wgsl_standard::forms::flow::return_value;
+use wgsl_standard::forms::refusal::Refusal;
+use wgsl_syntax::operator::{AssignmentOperator, assignment_named};
 use wgsl_syntax::overload::Stages;
 
 impl<'t> Checker<'t> {
@@ -54,12 +55,39 @@ impl<'t> Checker<'t> {
             true => Some(self.expressions.take_sign()),
             false => None,
         };
-        let left = self.expressions.take_part()?;
-        if self.expressions.has_value(&left)? && self.expressions.has_value(&right)? {
-            self.check_assignment(sign, &left, &right)?;
+        let left = match self.expressions.take_part() {
+            Ok(left) => left,
+            Err(error) => {
+                drop(right);
+                return Err(error);
+            }
+        };
+        self.assign_to(sign, left, right)?;
+        Ok(())
+    }
+
+    /// An assignment of which both sides are read. They are used.
+    fn assign_to(&mut self, sign: Option<usize>, left: Part, right: Part) -> Result<(), AllocError>
+        ensures { IfOk result (λ u. Keeps (noted (left ∷ right ∷ []) (state self.old)) (state self.new)) }
+    {
+        let checked = self.check_sides(sign, &left, &right);
+        self.expressions.note_both(left, right)?;
+        checked?;
+        Ok(())
+    }
+
+    fn check_sides(
+        &mut self,
+        sign: Option<usize>,
+        left: &Part,
+        right: &Part,
+    ) -> Result<(), AllocError>
+        ensures { Keeps (state self.old) (state self.new) }
+    {
+        if self.expressions.has_value(left)? && self.expressions.has_value(right)? {
+            self.check_assignment(sign, left, right)?;
         }
-        self.expressions.note(left)?;
-        self.expressions.note(right)
+        Ok(())
     }
 
     fn check_assignment(
@@ -74,7 +102,7 @@ impl<'t> Checker<'t> {
             return Ok(());
         };
         let operator = match sign {
-            Some(count) => assignment_of(self.word(count)),
+            Some(count) => assignment_named(self.word(count)).unwrap_or(AssignmentOperator::Equal),
             None => AssignmentOperator::Equal,
         };
         match (assign_by(operator, &x.operand(), &shown(y)), sign) {
@@ -205,22 +233,5 @@ impl<'t> Checker<'t> {
         }
         self.result = Some(ty);
         Ok(())
-    }
-}
-
-/// The operator of an assignment.
-fn assignment_of(word: &str) -> AssignmentOperator {
-    match word {
-        "+=" => AssignmentOperator::PlusEqual,
-        "-=" => AssignmentOperator::MinusEqual,
-        "*=" => AssignmentOperator::TimesEqual,
-        "/=" => AssignmentOperator::DivisionEqual,
-        "%=" => AssignmentOperator::ModuloEqual,
-        "&=" => AssignmentOperator::AndEqual,
-        "|=" => AssignmentOperator::OrEqual,
-        "^=" => AssignmentOperator::XorEqual,
-        ">>=" => AssignmentOperator::ShiftRightAssign,
-        "<<=" => AssignmentOperator::ShiftLeftAssign,
-        _ => AssignmentOperator::Equal,
     }
 }

@@ -1,15 +1,17 @@
 // What is done where something is noted.
 ghost use Rattle.std.specs.Prelude.{◌≡◌, IfOk};
-ghost use Rattle.wgsl_module.specs.Noted.{Comes, Does, Keeps, Statement, source, state};
+ghost use Rattle.wgsl_module.specs.Blocks.{OfLoop};
+ghost use Rattle.wgsl_module.specs.Noted.{Comes, Does, Statement};
+ghost use Rattle.wgsl_module.specs.States.{source, state};
 
 use crate::checker::Checker;
 use crate::typing::expressions::kind_before;
 use std::alloc::AllocError;
-use wgsl_forms::declare::Declaration;
 use wgsl_reader::kind::Kind;
 use wgsl_reader::mark::Mark;
 use wgsl_reader::read::Event;
 use wgsl_reader::token::Token;
+use wgsl_standard::forms::declare::Declaration;
 
 impl<'t> Checker<'t> {
     /// Does what events say, one by one.
@@ -25,7 +27,8 @@ impl<'t> Checker<'t> {
 
     /// Does what an event says whose last token is of this kind.
     fn step(&mut self, word: Kind, event: Event) -> Result<(), AllocError>
-        ensures { IfOk result (λ u. Does word event.mark event.at (state self.old) (state self.new)) }
+        ensures event { IfOk result (λ u. Does word event.mark event.at (state self.old) (state self.new)) }
+        ensures source { IfOk result (λ u. source (state self.new) ≡ source (state self.old)) }
     {
         if self.expressions.step(word, event)? {
             return Ok(());
@@ -34,7 +37,7 @@ impl<'t> Checker<'t> {
     }
 
     fn step_of_statement(&mut self, word: Kind, event: Event) -> Result<(), AllocError>
-        ensures statement { IfOk result (λ u. Statement event.mark event.at (state self.old) (state self.new)) }
+        ensures statement { IfOk result (λ u. Statement word event.mark event.at (state self.old) (state self.new)) }
         ensures source { IfOk result (λ u. source (state self.new) ≡ source (state self.old)) }
     {
         let count = event.at;
@@ -67,18 +70,24 @@ impl<'t> Checker<'t> {
     }
 
     fn step_of_loop(&mut self, mark: Mark) -> Result<(), AllocError>
-        ensures { Keeps (state self.old) (state self.new) }
+        ensures statement { IfOk result (λ u. OfLoop mark (state self.old) (state self.new)) }
+        ensures source { IfOk result (λ u. source (state self.new) ≡ source (state self.old)) }
     {
         match mark {
             Mark::Continue => self.skip_names(),
-            Mark::Continuing => self.leave_continuing(),
-            Mark::While | Mark::Loop => self.end_loop(),
+            Mark::Continuing => {
+                self.leave_continuing();
+                Ok(())
+            }
+            Mark::While | Mark::Loop => {
+                self.end_loop();
+                Ok(())
+            }
             Mark::For => {
                 self.end_loop();
-                self.close_block()?;
+                self.close_block()
             }
-            _ => {}
+            _ => Ok(()),
         }
-        Ok(())
     }
 }

@@ -1,6 +1,7 @@
 // `switch`, and the clauses of one (WGSL, "Switch Statement").
 ghost use Rattle.std.specs.Prelude.{◌≡◌, IfOk};
-ghost use Rattle.wgsl_module.specs.Noted.{HasCase, Keeps, Selects, Switched, noted, state};
+ghost use Rattle.wgsl_module.specs.Noted.{HasCase, Selects, Switched};
+ghost use Rattle.wgsl_module.specs.States.{Keeps, noted, state};
 
 use crate::checker::Checker;
 use crate::typing::expression::shown;
@@ -9,7 +10,7 @@ use crate::typing::known::Part;
 use std::alloc::AllocError;
 use std::collections::BTreeSet;
 use wgsl_core::ty::Type;
-use wgsl_forms::switch::switch_type;
+use wgsl_standard::forms::switch::switch_type;
 use wgsl_standard::operand::Operand;
 
 /// A `switch` so far.

@@ -28,7 +28,7 @@ mod number;
 mod parameter;
 pub mod scope;
 pub mod stage;
-mod step;
+pub mod step;
 pub mod structs;
 mod texture;
 pub mod value;

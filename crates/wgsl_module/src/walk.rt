@@ -1,8 +1,9 @@
 // Declarations that lead to one another: the order in which they are read, and which functions call which.
-ghost use Rattle.std.specs.Prelude.{◌≡◌, ◌∷◌, [], ◌≤◌, IfOk, MatchOption, Some, length, slice_get};
+ghost use Rattle.std.specs.Prelude.{◌≡◌, ◌∷◌, [], ◌≤◌, IfOk, MatchOption, Some, drop, length, slice_get};
+ghost use Rattle.wgsl_module.specs.Called.{called_at, called_in, is_opening, opens_call};
 ghost use Rattle.wgsl_module.specs.Declarations.{written};
 ghost use Rattle.wgsl_module.specs.Named.{are_words, is_colon, is_own, named_at, named_from, used};
-ghost use Rattle.wgsl_module.specs.Order.{Begins, GoesOn, HasEach, IsBehind, IsClosed, call_at, cycling, leads_from, leads_of, naming_of};
+ghost use Rattle.wgsl_module.specs.Order.{Begins, GoesOn, HasEach, IsBehind, IsClosed, cycling, leads_from, leads_of, naming_of};
 ghost use Rattle.wgsl_module.specs.typing.Words.{kind_of_any, word_at};
 
 use crate::attribute::attribute_named;
@@ -10,6 +11,7 @@ use crate::attributes::takes_names;
 use crate::checker::Checker;
 use crate::declaration::Declaration;
 use crate::typing::fault::Place;
+use crate::typing::step::is_round;
 use std::alloc::AllocError;
 use wgsl_reader::kind::Kind;
 use wgsl_reader::mark::Mark;
@@ -84,24 +86,14 @@ impl<'t> Checker<'t> {
         })
     }
 
-    /// What a declaration leads to next, from an index of its events or calls on; where, and the index behind that.
+    /// What a declaration leads to next, from one of its events or of those of its body on; where, and the index behind that.
     fn next(&self, link: Link, index: usize, at: usize) -> Option<(usize, Place, usize)>
         ensures { MatchOption result (leads_from self.now link index at ≡ []) (λ r. leads_from self.now link index at ≡ r.0 ∷ leads_from self.now link index r.2) }
     {
         match link {
             Link::Name => self.next_named(index, at),
-            Link::Call => {
-                let (callee, place) = self.call(index, at)?;
-                Some((callee, place, at.saturating_add(1)))
-            }
+            Link::Call => self.next_called(index, at),
         }
-    }
-
-    /// The call with an index in the body of a declaration.
-    fn call(&self, index: usize, at: usize) -> Option<(usize, Place)>
-        ensures { result ≡ call_at (slice_get self.now.doings.items index) at }
-    {
-        self.doings.get(index)?.as_ref()?.calls.get(at).copied()
     }
 
     /// The next declaration that one names, from an event on.
@@ -149,6 +141,48 @@ impl<'t> Checker<'t> {
         }
     }
 
+    /// The next declaration that the body of one calls, from an event on.
+    fn next_called(&self, index: usize, at: usize) -> Option<(usize, Place, usize)>
+        ensures { MatchOption result (leads_from self.now Link.Call index at ≡ []) (λ r. leads_from self.now Link.Call index at ≡ r.0 ∷ leads_from self.now Link.Call index r.2) }
+    {
+        self.first_called(self.declaration(index)?.body, at)
+    }
+
+    /// The first declaration that events call, from one of them on.
+    #[tactic(auto, using(crate::proofs::Called::by_event))]
+    fn first_called(&self, events: &[Event], at: usize) -> Option<(usize, Place, usize)>
+        ensures { MatchOption result (called_in (naming_of self.now) (drop at events.now) ≡ []) (λ r. called_in (naming_of self.now) (drop at events.now)
+            ≡ r.0 ∷ called_in (naming_of self.now) (drop r.2 events.now)) }
+    {
+        for k in at..events.len() {
+            let event = events[k];
+            if let Some(called) = self.called_at(event, events.get(k + 1).copied()) {
+                return Some((called, Place::last_of(event.at), k + 1));
+            }
+        }
+        None
+    }
+
+    /// The declaration that an event calls, by what comes next.
+    fn called_at(&self, event: Event, next: Option<Event>) -> Option<usize>
+        ensures { result ≡ called_at (naming_of self.now) event.mark event.at next }
+    {
+        match event.mark {
+            Mark::Name if self.opens_call(next) => self.declared(event.at),
+            _ => None,
+        }
+    }
+
+    /// Whether an event is the `(` of a call.
+    fn opens_call(&self, event: Option<Event>) -> bool
+        ensures { result ≡ opens_call self.now.expressions.tokens.now event }
+    {
+        match event {
+            Some(event) => is_opening(event.mark, self.expressions.token_before(event.at).kind),
+            None => false,
+        }
+    }
+
     /// The declaration that is named, if it isn't the name of a member or a parameter.
     fn used(&self, count: usize) -> Option<usize>
         ensures { result ≡ used (naming_of self.now) (is_colon (kind_of_any (slice_get self.now.expressions.tokens.now count))) count }
@@ -156,11 +190,28 @@ impl<'t> Checker<'t> {
         if is_colon(self.expressions.token(count).kind) {
             return None;
         }
+        self.declared(count)
+    }
+
+    /// The declaration that the name stands for that is the last of that many tokens.
+    fn declared(&self, count: usize) -> Option<usize>
+        ensures { result ≡ (naming_of self.now).declared (word_at self.now.expressions.text.now self.now.expressions.tokens.now count) }
+    {
         self.expressions.names.get(&self.word(count)).copied()
     }
 }
 
-fn is_colon(kind: Kind) -> bool
+/// Whether an event whose last token is of this kind is the `(` of a call.
+fn is_opening(mark: Mark, word: Kind) -> bool
+    ensures { result ≡ is_opening mark word }
+{
+    match mark {
+        Mark::Open => is_round(word),
+        _ => false,
+    }
+}
+
+pub fn is_colon(kind: Kind) -> bool
     ensures { result ≡ is_colon kind }
 {
     matches!(kind, Kind::Colon)

@@ -83,11 +83,9 @@ pub enum Mark {
     If,
     /// `else { .. }`, `else if a { .. }`
     Else,
-    /// `default { .. }`
-    Default,
-    /// `case 1, 2 { .. }`
+    /// `case 1, 2 { .. }`, `default { .. }`
     Case,
-    /// `default` behind `case`
+    /// `default`, alone or behind `case`
     DefaultSelector,
     /// A value behind `case`.
     CaseSelector,

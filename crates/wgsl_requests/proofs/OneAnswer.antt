@@ -27,8 +27,8 @@ use Rattle.wgsl_rules.proofs.layout.StructSizes.{never_both}
 use Rattle.wgsl_rules.proofs.operators.OneAnswer.{operator_answer_once, unary_answer_once}
 use Rattle.wgsl_requests.specs.Answers.{Answers, WgslAnswer, WgslLayout, IsReceivedCommon, AreOffsetsOf, IsLayoutOf, a_number, a_size, a_common_type, a_type, a_value, some_offsets, a_layout, a_type_of, a_resolution_of, some_lines, a_form_type, a_fit, rank_is, common_is, unary_is, binary_is, size_is, offsets_are, layout_is, ctor_is, call_is, type_of_is, resolution_of_is, explanation_of_is, unknown_is, overloads_of_are, form_is, fit_is}
 use Rattle.wgsl_requests.specs.Requests.{WgslForm, IsFormType, assignment_of, array_of}
-use Rattle.wgsl_forms.specs.Assign.{operator_of}
-use Rattle.wgsl_forms.proofs.OnlyAnswers.{arrays, assignments}
+use Rattle.wgsl_standard.specs.forms.Assign.{operator_of}
+use Rattle.wgsl_standard.proofs.OnlyAnswers.{arrays, assignments}
 use Rattle.std.proofs.lemmas.Str.{IsUtf8-from_is_utf8, is_utf8-from_IsUtf8}
 use Rattle.wgsl_requests.specs.Replies.{IsAnswer, IsLineOfText, IsReplyOf, OfLine, ReplyText, answer, unreadable}
 use Rattle.wgsl_requests.specs.Texts.{answer_text, text_kind}

@@ -19,8 +19,8 @@ pub use Rattle.wgsl_core.specs.View.{member_view, struct_view, view}
 pub use Rattle.wgsl_core.specs.declared.error.Fail.{Fail}
 pub use Rattle.wgsl_core.specs.declared.layout.StructLayout.{StructLayout}
 pub use Rattle.wgsl_core.specs.declared.ty.Type.{the_lemmas, «Type»}
-pub use Rattle.wgsl_forms.specs.Lists.{constructed, list_fits}
-pub use Rattle.wgsl_forms.specs.Views.{answer_view, taker_view, unbuilt_view}
+pub use Rattle.wgsl_standard.specs.forms.Lists.{constructed, list_fits}
+pub use Rattle.wgsl_standard.specs.forms.Views.{answer_view, taker_view, unbuilt_view}
 pub use Rattle.wgsl_requests.specs.Standard.{loaded, template_type, WgslCall, WgslResolution}
 pub use Rattle.wgsl_requests.specs.Texts.{column, columns, layout_text, member_line, member_lines, struct_line}
 pub use Rattle.wgsl_requests.specs.Requests.{call, ctor, unary, WgslRequest}

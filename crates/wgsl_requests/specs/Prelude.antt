@@ -5,9 +5,9 @@ pub use Rattle.wgsl_core.specs.View.{member_view, struct_view, view}
 pub use Rattle.wgsl_core.specs.declared.error.Error.{Error}
 pub use Rattle.wgsl_core.specs.declared.error.Fail.{Fail}
 pub use Rattle.wgsl_core.specs.internal.Resolution.{element_view}
-pub use Rattle.wgsl_forms.specs.Lists.{constructed, Fits, list_fits, Taker}
-pub use Rattle.wgsl_forms.specs.Refusals.{Refusal as FormRefusal, refusal_text}
-pub use Rattle.wgsl_forms.specs.Views.{answer_view, form_type_view, form_view, taker_view, unbuilt_view}
+pub use Rattle.wgsl_standard.specs.forms.Lists.{constructed, Fits, list_fits, Taker}
+pub use Rattle.wgsl_standard.specs.forms.Refusals.{Refusal as FormRefusal, refusal_text}
+pub use Rattle.wgsl_standard.specs.forms.Views.{answer_view, form_type_view, form_view, taker_view, unbuilt_view}
 pub use Rattle.wgsl_rules.specs.errors.Refusals.{binary, message, Refusal}
 pub use Rattle.wgsl_rules.specs.layout.Placement.{MemberLayout}
 pub use Rattle.wgsl_rules.specs.operators.Answers.{IsOperatorAnswer, IsUnaryAnswer}

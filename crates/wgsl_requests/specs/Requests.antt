@@ -8,22 +8,22 @@ use Rattle.wgsl_syntax.specs.declared.operator.AssignmentOperator.{AssignmentOpe
 use Rattle.wgsl_syntax.specs.declared.scalar.Scalar.{Scalar}
 use Rattle.wgsl_requests.specs.Prelude.{WgslType, scalar, Operand, types_of, constructed, FormRefusal as Refusal, BinaryOperator, UnaryOperator, RuleSet}
 use Rattle.wgsl_requests.specs.Prelude.{Members, Signature, Taker, Parameter, of_literal, of_type, WgslCallee, a_constructor, a_unary}
-use Rattle.wgsl_forms.specs.Address.{address_answer, indirection_answer}
-use Rattle.wgsl_forms.specs.Array.{IsInferredArray, typed_array}
-use Rattle.wgsl_forms.specs.Assign.{IsAssigned, incremented, operator_of}
-use Rattle.wgsl_forms.specs.Declare.{declared, overridden, taken}
-use Rattle.wgsl_forms.specs.Expressions.{Expression, shown_type}
-use Rattle.wgsl_forms.specs.Index.{index_answer}
-use Rattle.wgsl_forms.specs.Load.{loaded}
-use Rattle.wgsl_forms.specs.Member.{member_answer}
-use Rattle.wgsl_forms.specs.Switch.{switch_type}
-use Rattle.wgsl_forms.specs.Variable.{initialized_variable, variable}
-use Rattle.wgsl_forms.specs.declared.declare.Declaration.{Declaration}
-use Rattle.wgsl_forms.specs.declared.form.Referent.{Referent}
+use Rattle.wgsl_standard.specs.forms.Address.{address_answer, indirection_answer}
+use Rattle.wgsl_standard.specs.forms.Array.{IsInferredArray, typed_array}
+use Rattle.wgsl_standard.specs.forms.Assign.{IsAssigned, incremented, operator_of}
+use Rattle.wgsl_standard.specs.forms.Declare.{declared, overridden, taken}
+use Rattle.wgsl_standard.specs.forms.Expressions.{Expression, shown_type}
+use Rattle.wgsl_standard.specs.forms.Index.{index_answer}
+use Rattle.wgsl_standard.specs.forms.Load.{loaded}
+use Rattle.wgsl_standard.specs.forms.Member.{member_answer}
+use Rattle.wgsl_standard.specs.forms.Switch.{switch_type}
+use Rattle.wgsl_standard.specs.forms.Variable.{initialized_variable, variable}
+use Rattle.wgsl_standard.specs.declared.forms.declare.Declaration.{Declaration}
+use Rattle.wgsl_standard.specs.declared.forms.form.Referent.{Referent}
 use Rattle.wgsl_requests.specs.Standard.{WgslCall}
 use Rattle.wgsl_syntax.specs.declared.operator.UnaryOperator.TheVariants.{AddressOf, Indirection}
 use Rattle.wgsl_rules.specs.templates.Templates.{count_of}
-use Rattle.wgsl_forms.specs.declared.form.Referent.TheVariants.{Whole}
+use Rattle.wgsl_standard.specs.declared.forms.form.Referent.TheVariants.{Whole}
 
 -- a form with its operands, as they are written, before a reference is loaded
 pub data WgslForm : Type 0 where

@@ -12,7 +12,7 @@ use wgsl_calls::constructor::type_ctor;
 use wgsl_core::conversion::conversion_rank;
 use wgsl_core::operators::resolve::resolve_operator;
 use wgsl_core::operators::type_unary_op;
-use wgsl_forms::lists::fit;
+use wgsl_standard::forms::lists::fit;
 use wgsl_standard::meant::unknown_name;
 
 /// The answer to the request.

@@ -6,17 +6,17 @@ ghost use Rattle.wgsl_requests.specs.Views.{form_view};
 
 use crate::prelude::*;
 use crate::requests::Form;
-use wgsl_forms::address::{address_of, indirection};
-use wgsl_forms::array::{construct_array, construct_array_of};
-use wgsl_forms::assign::{assign_by, increment};
-use wgsl_forms::declare::{declare, discard, override_without_value};
-use wgsl_forms::form::{Element, Form as Expression, UnbuiltType};
-use wgsl_forms::index::type_of_index;
-use wgsl_forms::lists::construct_struct;
-use wgsl_forms::load::load_type;
-use wgsl_forms::member::type_of_member;
-use wgsl_forms::switch::switch_type;
-use wgsl_forms::variable::{initialized_variable, variable};
+use wgsl_standard::forms::address::{address_of, indirection};
+use wgsl_standard::forms::array::{construct_array, construct_array_of};
+use wgsl_standard::forms::assign::{assign_by, increment};
+use wgsl_standard::forms::declare::{declare, discard, override_without_value};
+use wgsl_standard::forms::form::{Element, Form as Expression, UnbuiltType};
+use wgsl_standard::forms::index::type_of_index;
+use wgsl_standard::forms::lists::construct_struct;
+use wgsl_standard::forms::load::load_type;
+use wgsl_standard::forms::member::type_of_member;
+use wgsl_standard::forms::switch::switch_type;
+use wgsl_standard::forms::variable::{initialized_variable, variable};
 use wgsl_syntax::scalar::Scalar;
 
 /// The type of a form, or why it has none.

@@ -1,8 +1,8 @@
 // What is asked.
 use crate::prelude::*;
 pub use wgsl_calls::call::NamedCall;
-use wgsl_forms::declare::Declaration;
-use wgsl_forms::lists::Taker;
+use wgsl_standard::forms::declare::Declaration;
+use wgsl_standard::forms::lists::Taker;
 use wgsl_syntax::address::{AccessMode, AddressSpace};
 use wgsl_syntax::operator::AssignmentOperator;
 

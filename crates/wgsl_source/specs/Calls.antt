@@ -1,17 +1,12 @@
 -- Calls whose values are known when a module is read (WGSL, "Value Constructor Built-in Functions", "Built-in Functions").
-use Rattle.std.specs.Prelude.{◌≡◌, ◌⊎◌, ℕ, List, [], ◌∷◌, Bool, cond, Option, Some, None, bytes_eq, codes, length, nat_eq, slice_get}
-use Rattle.wgsl_constants.specs.Calls.{called, function_named, with_argument}
+use Rattle.std.specs.Prelude.{◌≡◌, ◌⊎◌, ℕ, List, [], ◌∷◌, Bool, false, true, cond, Option, Some, None, bytes_eq, codes, length, nat_eq, slice_get}
+use Rattle.wgsl_constants.specs.Calls.{bitcast, called, conversion, function_named, with_argument}
 use Rattle.wgsl_constants.specs.Literals.{found, then}
 use Rattle.wgsl_constants.specs.Values.{map_value}
-use Rattle.wgsl_constants.specs.Vectors.{component, dot, size_named, vector_of}
+use Rattle.wgsl_constants.specs.Vectors.{dot, each, size_named, vector_of, with_components}
 use Rattle.wgsl_constants.specs.declared.call.Arguments.{Arguments}
-use Rattle.wgsl_constants.specs.declared.call.Arguments.TheVariants.{One, Zero}
+use Rattle.wgsl_constants.specs.declared.call.Arguments.TheVariants.{Zero}
 use Rattle.wgsl_constants.specs.declared.call.Function.{Function}
-use Rattle.wgsl_constants.specs.declared.call.Function.TheVariants as f
-use Rattle.wgsl_constants.specs.declared.constant.Constant.{Constant}
-use Rattle.wgsl_constants.specs.declared.constant.Constant.TheVariants as constant
-use Rattle.wgsl_constants.specs.declared.integer.Integer.{Integer}
-use Rattle.wgsl_constants.specs.declared.vector.Component.{Component}
 use Rattle.wgsl_constants.specs.declared.vector.Size.{Size}
 use Rattle.wgsl_constants.specs.declared.vector.Size.TheVariants as size
 use Rattle.wgsl_constants.specs.declared.vector.Vector.{Vector}
@@ -21,8 +16,7 @@ use Rattle.wgsl_spelling.specs.Words.{word}
 use Rattle.wgsl_spelling.specs.declared.predeclared.PredeclaredType.{PredeclaredType}
 use Rattle.wgsl_spelling.specs.declared.predeclared.PredeclaredType.TheVariants as p
 use Rattle.wgsl_syntax.specs.declared.scalar.Scalar.{Scalar}
-use Rattle.wgsl_syntax.specs.declared.scalar.Scalar.TheVariants as scalars
-use Rattle.wgsl_source.specs.Values.{components, vector_in}
+use Rattle.wgsl_source.specs.Values.{one, vector_in}
 use Rattle.wgsl_source.specs.declared.call.Callee.{Callee}
 use Rattle.wgsl_source.specs.declared.call.Callee.TheVariants as callee
 use Rattle.wgsl_source.specs.declared.item.Content.{Content}
@@ -37,19 +31,6 @@ use Rattle.wgsl_source.specs.declared.value.Value.{Value}
 use Rattle.wgsl_source.specs.declared.value.Value.TheVariants as value
 
 -- What is called
-
--- the function that converts to a scalar type, or takes bits as those of one
-abbrev pub conversion : Scalar → Option Function
-conversion scalars.U32 = Some f.U32
-conversion scalars.I32 = Some f.I32
-conversion scalars.F32 = Some f.F32
-conversion scalars.F16 = Some f.F16
-conversion other = None
-
-abbrev pub bitcast : Option Scalar → Option Callee
-bitcast (Some scalars.U32) = Some (callee.Function f.BitcastU32)
-bitcast (Some scalars.I32) = Some (callee.Function f.BitcastI32)
-bitcast other = None
 
 abbrev pub size_of : ℕ → Option Size
 size_of n = cond (nat_eq n 2) (Some size.Two) (cond (nat_eq n 3) (Some size.Three) (cond (nat_eq n 4) (Some size.Four) None))
@@ -82,29 +63,21 @@ callee_named name None = predeclared_callee name
 abbrev pub callee_of : Text → (List ℕ → Option Meaning) → Token → Content → Option Callee
 callee_of t named token content.Name = callee_named (word t.text.now token) (named (word t.text.now token))
 callee_of t named token (content.«Type» ty) = constructor ty.kind
-callee_of t named token (content.Bitcast s) = bitcast s
+callee_of t named token (content.Bitcast s) = then s (λ s. map_value callee.Function (bitcast s))
 callee_of t named token content.Function = predeclared_callee (word t.text.now token)
 callee_of t named token other = None
 
 -- Arguments
 
--- a component in this type, if one is given
-abbrev pub component_in : Option Scalar → Constant → Option Constant
-component_in None x = Some x
-component_in (Some s) x = then (conversion s) (λ function. found (called function (One x)))
+-- a vector that is the only argument of a constructor, in the type of its components, if that is given: `vec2u(vec2i(4, 1))`
+abbrev pub argument_in : Bool → Option Scalar → Vector → Option Vector
+argument_in only None v = Some v
+argument_in false (Some s) v = Some v
+argument_in true (Some s) v = then (conversion s) (λ function. found (each function v))
 
-abbrev pub with_component : Option Scalar → Option Integer → Arguments → Option Arguments
-with_component s None given = Some given
-with_component s (Some i) given = then (component_in s (constant.Integer i)) (λ x. with_argument x given)
-
--- the arguments with these components behind them
-abbrev pub with_components : Option Scalar → Vector → List Component → Arguments → Option Arguments
-with_components s v [] given = Some given
-with_components s v (which ∷ more) given = then (with_component s (component which v) given) (with_components s v more)
-
--- the arguments with one more: a vector counts as its components; if it is the only one, they are converted
+-- the arguments with one more: a vector counts as its components
 abbrev pub with_vector : Callee → Bool → Vector → Arguments → Option Arguments
-with_vector (callee.Vector size s) only v given = with_components (cond only s None) v components given
+with_vector (callee.Vector size s) only v given = then (argument_in only s v) (λ v. with_components v given)
 with_vector callee.Dot only v given = Some given
 with_vector other only v given = None
 
@@ -118,7 +91,7 @@ with_items of only [] given = Some given
 with_items of only (x ∷ items) given = then (with_content of only x.content given) (with_items of only items)
 
 abbrev pub dot_of : Content → Content → Option Value
-dot_of (content.Value (value.Vector a)) (content.Value (value.Vector b)) = map_value (λ i. value.Known (constant.Integer i)) (dot a b)
+dot_of (content.Value (value.Vector a)) (content.Value (value.Vector b)) = map_value one (found (dot a b))
 dot_of a b = None
 
 abbrev pub dot_value : List Item → Option Value

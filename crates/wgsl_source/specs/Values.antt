@@ -1,5 +1,5 @@
 -- The values of operators, components and literals, and values in their types (WGSL, "Literals", "Expressions", "Conversion Rank").
-use Rattle.std.specs.Prelude.{◌≡◌, ℕ, ℤ, pos, negsuc, List, [], ◌∷◌, Bool, Option, Some, None, cond, option_map, slice_get}
+use Rattle.std.specs.Prelude.{◌≡◌, ℕ, ℤ, List, Bool, Option, Some, None, cond, option_map}
 use Rattle.std.specs.Float.{float_to_signed}
 use Rattle.std.specs.Float.Ieee.{Format, binary32, binary64}
 use Rattle.std.specs.Float.Parse.{parse_float}
@@ -8,7 +8,7 @@ use Rattle.wgsl_constants.specs.Calls.{called}
 use Rattle.wgsl_constants.specs.Conversions.{number}
 use Rattle.wgsl_constants.specs.Literals.{ends_with, found, integer_of, then, without_last}
 use Rattle.wgsl_constants.specs.Values.{map_value}
-use Rattle.wgsl_constants.specs.Vectors.{alike, component, component_named, like, zero_of}
+use Rattle.wgsl_constants.specs.Vectors.{alike, element as element_of, like, member as member_of, zero_of}
 use Rattle.wgsl_constants.specs.declared.call.Arguments.TheVariants.{One}
 use Rattle.wgsl_constants.specs.declared.call.Function.{Function}
 use Rattle.wgsl_constants.specs.declared.call.Function.TheVariants as f
@@ -16,12 +16,10 @@ use Rattle.wgsl_constants.specs.declared.constant.Constant.{Constant}
 use Rattle.wgsl_constants.specs.declared.constant.Constant.TheVariants as constant
 use Rattle.wgsl_constants.specs.declared.integer.Integer.{Integer}
 use Rattle.wgsl_constants.specs.declared.integer.Integer.TheVariants.{Abstract}
-use Rattle.wgsl_constants.specs.declared.vector.Component.{Component}
-use Rattle.wgsl_constants.specs.declared.vector.Component.TheVariants.{First, Second, Third, Fourth}
 use Rattle.wgsl_constants.specs.declared.vector.Vector.{Vector}
 use Rattle.wgsl_reader.specs.declared.kind.Kind.{Kind}
 use Rattle.wgsl_reader.specs.declared.token.Token.{Token}
-use Rattle.wgsl_spelling.specs.Values.{binary_value, bool_of, unary_value}
+use Rattle.wgsl_spelling.specs.Values.{beside, binary_value, binary_vectors, bool_of, unary_value, unary_vector}
 use Rattle.wgsl_spelling.specs.Words.{word}
 use Rattle.wgsl_syntax.specs.declared.scalar.Scalar.{Scalar}
 use Rattle.wgsl_syntax.specs.declared.scalar.Scalar.TheVariants as scalars
@@ -61,39 +59,34 @@ IsLiteral t token v = ⊥
 
 -- Operators
 
--- `-4`, `~4`, `!true`
+-- `-4`, `~4`, `!true`, `-vec2(4, 1)`
 abbrev pub unary : Kind → Value → Option Value
 unary sign (value.Known a) = map_value value.Known (unary_value sign a)
+unary sign (value.Vector v) = map_value value.Vector (unary_vector sign v)
 unary sign value.Later = Some value.Later
-unary sign other = None
 
--- `2 * 4`, `1 < 2`: known later, if an operand is
+-- `2 * 4`, `1 < 2`, `vec2(4, 1) + vec2(1, 2)`, `vec2(4, 1) + 2`: known later, if an operand is
 abbrev pub binary : Kind → Value → Value → Option Value
 binary sign value.Later b = Some value.Later
 binary sign a value.Later = Some value.Later
 binary sign (value.Known a) (value.Known b) = map_value value.Known (binary_value sign a b)
-binary sign a b = None
+binary sign (value.Vector v) (value.Vector w) = map_value value.Vector (binary_vectors sign v w)
+binary sign (value.Vector v) (value.Known b) = then (beside sign b v) (λ w. map_value value.Vector (binary_vectors sign v w))
+binary sign (value.Known a) (value.Vector w) = then (beside sign a w) (λ v. map_value value.Vector (binary_vectors sign v w))
 
 -- Components
 
-abbrev pub component_of : Vector → Component → Option Value
-component_of v which = map_value (λ i. value.Known (constant.Integer i)) (component which v)
+abbrev pub one : Integer → Value
+one i = value.Known (constant.Integer i)
 
 -- `vec2(4, 1).x`
 abbrev pub member : List ℕ → Value → Option Value
-member letter (value.Vector v) = then (component_named letter) (component_of v)
+member letter (value.Vector v) = map_value one (member_of letter v)
 member letter other = None
-
-abbrev pub components : List Component
-components = First ∷ Second ∷ Third ∷ Fourth ∷ []
-
-abbrev pub component_at : ℤ → Option Component
-component_at (pos n) = slice_get components n
-component_at (negsuc n) = None
 
 -- `vec2(4, 1)[0]`
 abbrev pub element : Value → Value → Option Value
-element (value.Vector v) (value.Known (constant.Integer i)) = then (component_at (number i)) (component_of v)
+element (value.Vector v) (value.Known (constant.Integer i)) = map_value one (element_of (number i) v)
 element v other = None
 
 -- Types of constants

@@ -1,8 +1,10 @@
 // Calls whose values are known when a module is read.
 ghost use Rattle.std.specs.Prelude.{◌≡◌, IfOk, IfSome, Some};
-ghost use Rattle.wgsl_constants.specs.Calls.{with_argument};
-ghost use Rattle.wgsl_source.specs.Calls.{IsCalled, IsCallOf, bitcast, callee_by, callee_of, called_with, component_in, constructor, conversion, dot_value, predeclared_callee, vector, with_component, with_components, with_content, with_vector};
-ghost use Rattle.wgsl_source.specs.Values.{components};
+ghost use Rattle.wgsl_constants.specs.Calls.{bitcast, with_argument};
+ghost use Rattle.wgsl_constants.specs.Literals.{then};
+ghost use Rattle.wgsl_constants.specs.Values.{map_value};
+ghost use Rattle.wgsl_constants.specs.Vectors.{with_components};
+ghost use Rattle.wgsl_source.specs.Calls.{IsCalled, IsCallOf, argument_in, callee_by, callee_of, called_with, constructor, dot_value, predeclared_callee, vector, with_content, with_vector};
 ghost use Rattle.wgsl_source.specs.WrittenTypes.{meaning_of};
 ghost use Rattle.wgsl_spelling.specs.Words.{word};
 
@@ -14,8 +16,7 @@ use crate::scope::{Meaning, Scope};
 use crate::value::{Value, vector_in};
 use wgsl_constants::call::{Arguments, Function};
 use wgsl_constants::constant::Constant;
-use wgsl_constants::integer::Integer;
-use wgsl_constants::vector::{Component, Size, Vector};
+use wgsl_constants::vector::{Size, Vector};
 use wgsl_spelling::predeclared::{PredeclaredType, predeclared};
 use wgsl_syntax::scalar::Scalar;
 
@@ -123,7 +124,7 @@ fn constructor(ty: MeasuredType) -> Option<Callee>
     ensures { IfSome result (λ callee. constructor ty.kind ≡ Some callee) }
 {
     match ty.kind {
-        TypeKind::Scalar(scalar) => Some(Callee::Function(conversion(scalar)?)),
+        TypeKind::Scalar(scalar) => Some(Callee::Function(Function::conversion(scalar)?)),
         TypeKind::Vector(n, scalar) => vector(n, scalar),
         _ => None,
     }
@@ -198,7 +199,7 @@ fn with_content(
     }
 }
 
-/// The arguments with the components of a vector behind them. Those of the only argument are converted.
+/// The arguments with the components of a vector behind them.
 fn with_vector(
     callee: Callee,
     is_only: bool,
@@ -208,10 +209,23 @@ fn with_vector(
     ensures { IfOk result (λ all. with_vector callee is_only vector given ≡ Some all) }
 {
     match callee {
-        Callee::Vector(_, scalar) if is_only => with_components(given, vector, scalar),
-        Callee::Vector(_, _) => with_components(given, vector, None),
+        Callee::Vector(_, scalar) => with_components(argument_in(is_only, scalar, vector)?, given),
         Callee::Dot => Ok(given),
         Callee::Function(_) => Err(Cause::NotInteger),
+    }
+}
+
+/// A vector that is an argument of a constructor: the only one is converted to the type of its components, if that is given.
+fn argument_in(is_only: bool, scalar: Option<Scalar>, vector: Vector) -> Result<Vector, Cause>
+    ensures { IfOk result (λ v. argument_in is_only scalar vector ≡ Some v) }
+{
+    match scalar {
+        Some(scalar) if is_only => match Function::conversion(scalar) {
+            Some(function) => Ok(vector.each(function)?),
+            None => Err(Cause::NotInteger),
+        },
+        Some(_) => Ok(vector),
+        None => Ok(vector),
     }
 }
 
@@ -221,65 +235,15 @@ fn with(given: Arguments, constant: Constant) -> Result<Arguments, Cause>
     given.with(constant).ok_or(Cause::WrongArgumentCount)
 }
 
-/// The arguments with the components of a vector behind them, converted to a type if one is given.
-fn with_components(
-    given: Arguments,
-    vector: Vector,
-    scalar: Option<Scalar>,
-) -> Result<Arguments, Cause>
-    ensures { IfOk result (λ all. with_components scalar vector components given ≡ Some all) }
+fn with_components(vector: Vector, given: Arguments) -> Result<Arguments, Cause>
+    ensures { IfOk result (λ all. with_components vector given ≡ Some all) }
 {
-    let one = with_component(given, vector.component(Component::First), scalar)?;
-    let two = with_component(one, vector.component(Component::Second), scalar)?;
-    let three = with_component(two, vector.component(Component::Third), scalar)?;
-    with_component(three, vector.component(Component::Fourth), scalar)
-}
-
-fn with_component(
-    given: Arguments,
-    component: Option<Integer>,
-    scalar: Option<Scalar>,
-) -> Result<Arguments, Cause>
-    ensures { IfOk result (λ all. with_component scalar component given ≡ Some all) }
-{
-    match component {
-        Some(integer) => with(given, component_in(Constant::Integer(integer), scalar)?),
-        None => Ok(given),
-    }
-}
-
-fn component_in(component: Constant, scalar: Option<Scalar>) -> Result<Constant, Cause>
-    ensures { IfOk result (λ constant. component_in scalar component ≡ Some constant) }
-{
-    match scalar {
-        Some(scalar) => match conversion(scalar) {
-            Some(function) => Ok(function.apply(Arguments::One(component))?),
-            None => Err(Cause::NotInteger),
-        },
-        None => Ok(component),
-    }
-}
-
-/// The function that converts to a scalar type.
-fn conversion(scalar: Scalar) -> Option<Function>
-    ensures { IfSome result (λ function. conversion scalar ≡ Some function) }
-{
-    match scalar {
-        Scalar::U32 => Some(Function::U32),
-        Scalar::I32 => Some(Function::I32),
-        Scalar::F32 => Some(Function::F32),
-        Scalar::F16 => Some(Function::F16),
-        _ => None,
-    }
+    vector.behind(given).ok_or(Cause::WrongArgumentCount)
 }
 
 /// The function that takes bits as those of a scalar type.
 fn bitcast(scalar: Option<Scalar>) -> Option<Callee>
-    ensures { IfSome result (λ callee. bitcast scalar ≡ Some callee) }
+    ensures { IfSome result (λ callee. then scalar (λ s. map_value Callee.Function (bitcast s)) ≡ Some callee) }
 {
-    match scalar? {
-        Scalar::U32 => Some(Callee::Function(Function::BitcastU32)),
-        Scalar::I32 => Some(Callee::Function(Function::BitcastI32)),
-        _ => None,
-    }
+    Some(Callee::Function(Function::bitcast(scalar?)?))
 }

@@ -6,7 +6,7 @@ use crate::fault::{Cause, Expected, ExtensionKind, Named};
 use std::alloc::{AllocError, Global};
 use wgsl_spelling::meant::{ACCESS_MODES, SCALARS, SPACES, TEXEL_FORMATS, TYPES};
 use wgsl_syntax::nearest::{Nearest, word_of_wgsl};
-use wgsl_tables::names::FUNCTIONS;
+use wgsl_syntax::tables::names::FUNCTIONS;
 
 /// The names that a module declares.
 #[derive(Drop)]

@@ -1,6 +1,7 @@
 // What is known of a value when a module is read.
 ghost use Rattle.std.specs.Prelude.{◌≡◌, IfOk, Some};
-ghost use Rattle.wgsl_source.specs.Values.{binary, component_at, component_of, constant_in, converted, element, float_in, in_type, known, member, unary, vector_in};
+ghost use Rattle.wgsl_constants.specs.Values.{map_value};
+ghost use Rattle.wgsl_source.specs.Values.{binary, constant_in, converted, element, float_in, in_type, known, member, one, unary, vector_in};
 ghost use Rattle.wgsl_source.specs.WrittenTypes.{HasInitial, meaning_of};
 ghost use Rattle.wgsl_source.specs.internal.Read.{IsConstantOf};
 
@@ -10,10 +11,10 @@ use crate::scope::{Meaning, Scope};
 use wgsl_constants::call::{Arguments, Function, integer};
 use wgsl_constants::constant::Constant;
 use wgsl_constants::integer::Integer;
-use wgsl_constants::vector::{COMPONENTS, Component, Vector, alike, zero_of};
+use wgsl_constants::vector::{Component, Vector, alike, zero_of};
 use wgsl_reader::kind::Kind;
 use wgsl_reader::read::Event;
-use wgsl_spelling::value::{binary_value, unary_value};
+use wgsl_spelling::value::{beside, binary_value, binary_vectors, unary_value, unary_vector};
 use wgsl_syntax::scalar::Scalar;
 
 /// What is known of a value.
@@ -39,6 +40,7 @@ pub fn unary(sign: Kind, value: Value) -> Result<Value, Cause>
 {
     match (sign, value) {
         (_, Value::Known(operand)) => Ok(Value::Known(unary_value(sign, operand)?)),
+        (_, Value::Vector(operand)) => Ok(Value::Vector(unary_vector(sign, operand)?)),
         (Kind::Minus | Kind::Tilde | Kind::Bang, Value::Later) => Ok(Value::Later),
         _ => Err(Cause::NotInteger),
     }
@@ -51,7 +53,13 @@ pub fn binary(sign: Kind, left: Value, right: Value) -> Result<Value, Cause>
     match (left, right) {
         (Value::Later, _) | (_, Value::Later) => Ok(Value::Later),
         (Value::Known(a), Value::Known(b)) => Ok(Value::Known(binary_value(sign, a, b)?)),
-        _ => Err(Cause::NotInteger),
+        (Value::Vector(v), Value::Vector(w)) => Ok(Value::Vector(binary_vectors(sign, v, w)?)),
+        (Value::Vector(v), Value::Known(b)) => {
+            Ok(Value::Vector(binary_vectors(sign, v, beside(sign, b, v)?)?))
+        }
+        (Value::Known(a), Value::Vector(w)) => {
+            Ok(Value::Vector(binary_vectors(sign, beside(sign, a, w)?, w)?))
+        }
     }
 }
 
@@ -61,7 +69,7 @@ pub fn member(value: Value, letter: &str) -> Result<Value, Cause>
 {
     match (value, Component::named(letter)) {
         (Value::Later, _) => Err(Cause::KnownLater),
-        (Value::Vector(vector), Some(which)) => component(vector, which),
+        (Value::Vector(vector), Some(which)) => one(vector.component(which)),
         _ => Err(Cause::NotInteger),
     }
 }
@@ -71,28 +79,19 @@ pub fn element(value: Value, index: Value) -> Result<Value, Cause>
     ensures { IfOk result (λ v. element value index ≡ Some v) }
 {
     match (value, index) {
-        (Value::Vector(vector), Value::Known(index)) => component_at(vector, integer(index)?),
+        (Value::Vector(vector), Value::Known(index)) => {
+            one(vector.element(integer(index)?.value()))
+        }
         (Value::Later, _) | (_, Value::Later) => Err(Cause::KnownLater),
         _ => Err(Cause::NotInteger),
     }
 }
 
-fn component_at(vector: Vector, index: Integer) -> Result<Value, Cause>
-    ensures { IfOk result (λ v. element (Value.Vector vector) (Value.Known (Constant.Integer index)) ≡ Some v) }
+/// The value of a component, if the vector has it.
+fn one(component: Option<Integer>) -> Result<Value, Cause>
+    ensures { IfOk result (λ v. map_value one component ≡ Some v) }
 {
-    match usize::try_from(index.value()) {
-        Ok(index) => match COMPONENTS.get(index) {
-            Some(which) => component(vector, *which),
-            None => Err(Cause::NoSuchComponent),
-        },
-        Err(_) => Err(Cause::NoSuchComponent),
-    }
-}
-
-fn component(vector: Vector, which: Component) -> Result<Value, Cause>
-    ensures { IfOk result (λ v. component_of vector which ≡ Some v) }
-{
-    match vector.component(which) {
+    match component {
         Some(integer) => Ok(Value::Known(Constant::Integer(integer))),
         None => Err(Cause::NoSuchComponent),
     }

@@ -2,8 +2,8 @@
 pub use Rattle.std.proofs.lemmas.Fmt.{decimal_by_steps, decimal_digit, decimal_nonempty, first_decimal}
 pub use Rattle.std.proofs.lemmas.Grind.{common_steps}
 pub use Rattle.std.specs.List.{list_all, prefix_len}
-pub use Rattle.wgsl_constants.specs.Literals.{appended, behind, ends_with, found, integer_of, is_wrong, number, then}
-pub use Rattle.wgsl_constants.specs.Values.{map_value, value}
+pub use Rattle.wgsl_constants.specs.Literals.{appended, behind, ends_with, integer_of, is_wrong, number, then}
+pub use Rattle.wgsl_constants.specs.Values.{map_value}
 pub use Rattle.wgsl_constants.specs.declared.integer.Integer.TheVariants.{Abstract}
 pub use Rattle.wgsl_core.specs.View.{view}
 pub use Rattle.wgsl_reader.specs.Bytes.{byte_at, is_digit, is_in_ascii_name}
@@ -17,7 +17,7 @@ pub use Rattle.wgsl_reader.specs.declared.read.Event.{Event}
 pub use Rattle.wgsl_reader.specs.declared.token.Token.{Token}
 pub use Rattle.wgsl_rules.specs.types.Around.{around}
 pub use Rattle.wgsl_spelling.specs.Chains.{Chain, leaf_type, push, type_of, with_name, with_plain, with_type, with_word, wrapped}
-pub use Rattle.wgsl_spelling.specs.Names.{access_named, flag_named, format_named, or_else, sampled_named, space_named}
+pub use Rattle.wgsl_spelling.specs.Names.{access_named, format_named, or_else, space_named}
 pub use Rattle.wgsl_spelling.specs.Predeclared.{predeclared}
 pub use Rattle.wgsl_spelling.specs.Spelled.{is_bitcast, no_token, nothing, Spells, SpellsBy, State, state, token_before, TokensSpell, type_of_outcome, with_binary, with_item, with_listed, with_unary}
 pub use Rattle.wgsl_spelling.specs.Templates.{is_open, last_list, listed_by, listed_in}

@@ -2,12 +2,11 @@
 use Rattle.std.proofs.Common.{◌≡◌, ◌⊎◌, inl, inr, ℕ, List, MatchOption, Option, Some, None, Result, Ok, Err, refl, sym, ap, ◌∙◌}
 use Rattle.std.specs.Bool.{⊤}
 use Rattle.std.specs.Result.{result_ok}
-use Rattle.wgsl_spelling.proofs.Common.{IsSpace, access_modes, access_text, space_text, space_text_by, spaces, flag_text, flags, scalar_text, scalars, IsTexel, texel_formats, texel_text, texel_text_by, sampled_text, sampled_types, AccessMode, AddressSpace, AccelerationStructureFlags, Standard, Scalar, TexelFormat, SampledType, access_named, flag_named, format_named, or_else, sampled_named, space_named}
+use Rattle.wgsl_spelling.proofs.Common.{IsSpace, access_modes, access_text, space_text, space_text_by, spaces, flag_text, flags, IsTexel, texel_formats, texel_text, texel_text_by, sampled_text, sampled_types, AccessMode, AddressSpace, Standard, TexelFormat, access_named, format_named, or_else, space_named}
 use Rattle.wgsl_syntax.specs.Names.{Reads, named, table}
 use Rattle.wgsl_syntax.specs.declared.address.AccessMode.TheVariants as access
 use Rattle.wgsl_syntax.specs.declared.address.AddressSpace.TheVariants as space
 use Rattle.wgsl_syntax.specs.declared.attribute.AccelerationStructureFlags.TheVariants as flag
-use Rattle.wgsl_syntax.specs.declared.scalar.Scalar.TheVariants as scalar
 use Rattle.wgsl_syntax.specs.declared.texel.TexelFormat.TheVariants as texel
 use Rattle.wgsl_syntax.specs.declared.texture.SampledType.TheVariants as sampled
 use Rattle.wgsl_syntax.proofs.Naming.{named_text}
@@ -25,10 +24,6 @@ read_named text values back s (Ok x) reads = sym (ap (named (table text values))
 read_named text values back s (Err e) reads =
     is_none (named (table text values) s) (λ x is. let no : Err e ≡ Ok x = (reads x).1 (named_text text values s x is) in cc no)
 
-pub scalar_back : Back scalar_text scalars
-scalar_back scalar.Bool = refl
-scalar_back _ = refl
-
 pub access_back : Back access_text access_modes
 access_back access.Read = refl
 access_back _ = refl
@@ -40,17 +35,8 @@ sampled_back _ = refl
 pub flag_back : Back flag_text flags
 flag_back flag.VertexReturn = refl
 
-pub scalar_is : (s : List ℕ) (r : Result Scalar ⊤) → Reads scalar_text s r → result_ok r ≡ named (table scalar_text scalars) s
-scalar_is = read_named scalar_text scalars scalar_back
-
 pub access_is : (s : List ℕ) (r : Result AccessMode ⊤) → Reads access_text s r → result_ok r ≡ access_named s
 access_is = read_named access_text access_modes access_back
-
-pub sampled_is : (s : List ℕ) (r : Result SampledType ⊤) → Reads sampled_text s r → result_ok r ≡ sampled_named s
-sampled_is = read_named sampled_text sampled_types sampled_back
-
-pub flag_is : (s : List ℕ) (r : Result AccelerationStructureFlags ⊤) → Reads flag_text s r → result_ok r ≡ flag_named s
-flag_is = read_named flag_text flags flag_back
 
 -- by one name or by the other
 abbrev either : {A : Type 0} → (A → List ℕ) → (A → List ℕ) → List A → List ℕ → Option A

@@ -4,7 +4,7 @@ use Rattle.wgsl_reader.specs.declared.token.Token.{Token}
 use Rattle.wgsl_constants.specs.Calls.{called, function_named, with_argument}
 use Rattle.wgsl_constants.specs.Literals.{found, then}
 use Rattle.wgsl_constants.specs.Values.{map_value}
-use Rattle.wgsl_constants.specs.Vectors.{component, component_named, size_named, vector_of}
+use Rattle.wgsl_constants.specs.Vectors.{member as member_of, size_named, vector_of}
 use Rattle.wgsl_constants.specs.declared.call.Arguments.{Arguments}
 use Rattle.wgsl_constants.specs.declared.call.Arguments.TheVariants.{Zero}
 use Rattle.wgsl_constants.specs.declared.constant.Constant.TheVariants as c
@@ -46,5 +46,4 @@ called_item call = then (call_in call.value) (λ of. map_value (item call.token)
 
 -- the component of a vector
 abbrev pub member : List ℕ → Item → Option Item
-member letter x =
-    then (vector x) (λ of. then (component_named letter) (λ which. map_value (λ n. valued x (c.Integer n)) (component which of)))
+member letter x = then (vector x) (λ of. map_value (λ n. valued x (c.Integer n)) (member_of letter of))

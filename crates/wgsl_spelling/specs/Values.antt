@@ -5,15 +5,19 @@ use Rattle.std.specs.Ordering.{is_eq, is_ge, is_gt, is_le, is_lt, is_ne}
 use Rattle.std.specs.declared.cmp.Ordering.{Ordering}
 use Rattle.wgsl_reader.specs.declared.kind.Kind.{Kind}
 use Rattle.wgsl_reader.specs.declared.kind.Kind.TheVariants as k
+use Rattle.wgsl_constants.specs.Calls.{integer as integer_in}
 use Rattle.wgsl_constants.specs.Functions.{comparison, of_pair}
 use Rattle.wgsl_constants.specs.Literals.{found, integer_of, then, type_of_number}
-use Rattle.wgsl_constants.specs.Values.{complement_of, left_shift, map_value, negative, right_shift, value}
+use Rattle.wgsl_constants.specs.Values.{complement_of, map_value, negative}
+use Rattle.wgsl_constants.specs.Vectors.{each, each_of_two, filled, made_of_two}
+use Rattle.wgsl_constants.specs.declared.call.Function.{Function}
+use Rattle.wgsl_constants.specs.declared.call.Function.TheVariants as f
 use Rattle.wgsl_constants.specs.declared.constant.Constant.{Constant}
 use Rattle.wgsl_constants.specs.declared.constant.Constant.TheVariants as c
 use Rattle.wgsl_constants.specs.declared.integer.Integer.{Integer}
 use Rattle.wgsl_constants.specs.declared.integer.Integer.TheVariants.{Abstract, I32, U32}
-use Rattle.wgsl_constants.specs.declared.integer.IntegerOperator.{IntegerOperator}
 use Rattle.wgsl_constants.specs.declared.integer.IntegerOperator.TheVariants.{Addition, Subtraction, Multiplication, Division, Remainder, BitwiseOr, BitwiseAnd, BitwiseXor}
+use Rattle.wgsl_constants.specs.declared.vector.Vector.{Vector}
 use Rattle.wgsl_syntax.specs.declared.scalar.Scalar.{Scalar}
 use Rattle.wgsl_syntax.specs.declared.scalar.Scalar.TheVariants.{Bool as TheBool}
 use Rattle.wgsl_spelling.specs.declared.item.Item.{Item}
@@ -74,22 +78,23 @@ unary_value k.Tilde (c.Integer a) = Some (c.Integer (complement_of a))
 unary_value k.Bang (c.Bool b) = Some (c.Bool (not b))
 unary_value other a = None
 
-abbrev pub operator_of : Kind → Option IntegerOperator
-operator_of k.Plus = Some Addition
-operator_of k.Minus = Some Subtraction
-operator_of k.Star = Some Multiplication
-operator_of k.Slash = Some Division
-operator_of k.Percent = Some Remainder
-operator_of k.Or = Some BitwiseOr
-operator_of k.And = Some BitwiseAnd
-operator_of k.Xor = Some BitwiseXor
+-- the operator that makes an integer of two
+abbrev pub operator_of : Kind → Option Function
+operator_of k.Plus = Some (f.Operator Addition)
+operator_of k.Minus = Some (f.Operator Subtraction)
+operator_of k.Star = Some (f.Operator Multiplication)
+operator_of k.Slash = Some (f.Operator Division)
+operator_of k.Percent = Some (f.Operator Remainder)
+operator_of k.Or = Some (f.Operator BitwiseOr)
+operator_of k.And = Some (f.Operator BitwiseAnd)
+operator_of k.Xor = Some (f.Operator BitwiseXor)
+operator_of k.ShiftLeft = Some f.ShiftLeft
+operator_of k.ShiftRight = Some f.ShiftRight
 operator_of other = None
 
 -- `2 + 2`, `1 << 2`
 abbrev pub sign_value : Kind → Integer → Integer → Option Integer
-sign_value k.ShiftLeft a b = found (left_shift a b)
-sign_value k.ShiftRight a b = found (right_shift a b)
-sign_value kind a b = then (operator_of kind) (λ op. found (value op a b))
+sign_value kind a b = then (operator_of kind) (λ op. found (made_of_two op a b))
 
 abbrev pub comparison_of : Kind → Option Comparison
 comparison_of k.EqualEqual = Some test.Equal
@@ -130,6 +135,30 @@ abbrev pub binary_value : Kind → Constant → Constant → Option Constant
 binary_value kind (c.Integer a) (c.Integer b) = of_integers (comparison_of kind) kind a b
 binary_value kind (c.Bool a) (c.Bool b) = map_value c.Bool (of_bools kind a b)
 binary_value kind a b = None
+
+-- Operators on vectors, component by component
+
+-- `-vec2(1, 2)`, `~vec2(1, 2)`
+abbrev pub unary_vector : Kind → Vector → Option Vector
+unary_vector k.Minus v = found (each f.Negation v)
+unary_vector k.Tilde v = found (each f.Complement v)
+unary_vector other v = None
+
+-- `vec2(1, 2) + vec2(3, 4)`
+abbrev pub binary_vectors : Kind → Vector → Vector → Option Vector
+binary_vectors kind v w = then (operator_of kind) (λ op. found (each_of_two op v w))
+
+-- `vec2(1, 2) + 1`: arithmetic takes an integer beside a vector, as if it were one as long
+abbrev pub is_arithmetic : Kind → Bool
+is_arithmetic k.Plus = true
+is_arithmetic k.Minus = true
+is_arithmetic k.Star = true
+is_arithmetic k.Slash = true
+is_arithmetic k.Percent = true
+is_arithmetic other = false
+
+abbrev pub beside : Kind → Constant → Vector → Option Vector
+beside kind x v = cond (is_arithmetic kind) (map_value (λ n. filled n v) (found (integer_in x))) None
 
 -- the item of a value, which begins with this one
 abbrev pub valued : Item → Constant → Item

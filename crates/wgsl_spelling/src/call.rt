@@ -10,7 +10,7 @@ use crate::value::{constant, valued};
 use crate::word::word;
 use wgsl_constants::call::{Arguments, CallError, Function};
 use wgsl_constants::constant::Constant;
-use wgsl_constants::vector::{Component, Size, Vector};
+use wgsl_constants::vector::{Size, Vector};
 
 /// The beginning of a call of what an item names.
 pub fn opened(text: &str, item: Item) -> Result<Item, Stop>
@@ -94,10 +94,7 @@ pub fn member(letter: &str, item: Item) -> Result<Item, Stop>
     let Value::Vector(vector) = item.value else {
         return Err(stop_at(item.token.at, Cause::NotInteger));
     };
-    let Some(component) = Component::named(letter) else {
-        return Err(stop_at(item.token.at, Cause::NoComponent));
-    };
-    match vector.component(component) {
+    match vector.member(letter) {
         Some(integer) => Ok(valued(item, Constant::Integer(integer))),
         None => Err(stop_at(item.token.at, Cause::NoComponent)),
     }

@@ -7,7 +7,7 @@ ghost use Rattle.wgsl_spelling.specs.Templates.{bitcast, bitcast_named, flag, is
 use crate::chain::Leaf;
 use crate::fault::{Cause, Expected, Stop, stop_at};
 use crate::item::{Item, Value};
-use crate::name::{access_named, flag_named, format_named, sampled_named, space_named};
+use crate::name::{access_named, format_named, space_named};
 use crate::predeclared::{LayerName, PredeclaredType, predeclared};
 use crate::value::count;
 use crate::word::word;
@@ -16,9 +16,9 @@ use wgsl_reader::kind::Kind;
 use wgsl_reader::token::Token;
 use wgsl_syntax::address::{AccessMode, AddressSpace};
 use wgsl_syntax::around::Around;
-use wgsl_syntax::attribute::AccelerationStructureFlags;
+use wgsl_syntax::attribute::{AccelerationStructureFlags, flag_named};
 use wgsl_syntax::texel::TexelFormat;
-use wgsl_syntax::texture::{SampledType, TextureType};
+use wgsl_syntax::texture::{SampledType, TextureType, sampled_named};
 use wgsl_syntax::texture_name::{TextureName, TextureParameters};
 
 /// A name and the parameters in its template list.

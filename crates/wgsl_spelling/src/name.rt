@@ -1,13 +1,11 @@
 // Values of enumerations by their names.
 ghost use Rattle.std.specs.Prelude.{◌≡◌};
-ghost use Rattle.wgsl_spelling.specs.Names.{access_named, flag_named, format_named, sampled_named, space_named};
+ghost use Rattle.wgsl_spelling.specs.Names.{access_named, format_named, space_named};
 
 use std::str::FromStr;
 use wgsl_syntax::address::{AccessMode, AddressSpace};
-use wgsl_syntax::attribute::AccelerationStructureFlags;
 use wgsl_syntax::rules::RuleSet;
 use wgsl_syntax::texel::TexelFormat;
-use wgsl_syntax::texture::SampledType;
 
 /// `storage`
 #[tactic(auto, using(crate::proofs::Names::space_is))]
@@ -23,22 +21,6 @@ pub fn access_named(name: &str) -> Option<AccessMode>
     ensures { result ≡ access_named name.now }
 {
     AccessMode::from_str(name).ok()
-}
-
-/// `f32`
-#[tactic(auto, using(crate::proofs::Names::sampled_is))]
-pub fn sampled_named(name: &str) -> Option<SampledType>
-    ensures { result ≡ sampled_named name.now }
-{
-    SampledType::from_str(name).ok()
-}
-
-/// `vertex_return`
-#[tactic(auto, using(crate::proofs::Names::flag_is))]
-pub fn flag_named(name: &str) -> Option<AccelerationStructureFlags>
-    ensures { result ≡ flag_named name.now }
-{
-    AccelerationStructureFlags::from_str(name).ok()
 }
 
 /// `rgba8unorm`

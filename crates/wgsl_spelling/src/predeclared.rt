@@ -1,11 +1,9 @@
 // The predeclared names of types.
 ghost use Rattle.std.specs.Prelude.{◌≡◌};
-ghost use Rattle.wgsl_syntax.specs.Names.{named, table};
-ghost use Rattle.wgsl_syntax.specs.Scalar.{scalar_text, scalars};
+ghost use Rattle.wgsl_syntax.specs.Names.{named};
 ghost use Rattle.wgsl_spelling.specs.Predeclared.{count, is_half, is_naga_only, matrix_type, other_names, other_type, predeclared, short_float, short_scalar, vector_type};
 
-use std::str::FromStr;
-use wgsl_syntax::scalar::Scalar;
+use wgsl_syntax::scalar::{Scalar, scalar_named};
 use wgsl_syntax::texture::SamplerType;
 use wgsl_syntax::texture_name::{TextureName, texture_named};
 
@@ -75,13 +73,6 @@ pub fn predeclared(name: &str) -> Option<PredeclaredType>
         Some(texture) => Some(PredeclaredType::Texture(texture)),
         None => other_type(name),
     }
-}
-
-#[tactic(auto, using(crate::proofs::Names::scalar_is))]
-fn scalar_named(name: &str) -> Option<Scalar>
-    ensures { result ≡ named (table scalar_text scalars) name.now }
-{
-    Scalar::from_str(name).ok()
 }
 
 /// The meaning of a vector's or a matrix's name, or of a name without a number.

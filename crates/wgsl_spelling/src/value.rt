@@ -1,20 +1,21 @@
 // The values of literals and operators in counts.
 ghost use Rattle.std.specs.Prelude.{◌≡◌, None, Some, cond};
 ghost use Rattle.wgsl_constants.specs.Literals.{found};
-ghost use Rattle.wgsl_constants.specs.Values.{negative, value};
+ghost use Rattle.wgsl_constants.specs.Values.{negative};
 ghost use Rattle.wgsl_spelling.specs.Items.{constant, integer, is_value};
 ghost use Rattle.wgsl_spelling.specs.Seen.{Gives, IsFault};
-ghost use Rattle.wgsl_spelling.specs.Values.{binary, binary_value, bool_of, compared, comparison_of, count, count_of, first_of, holds, literal, of_bools, operator_of, sign_in, sign_value, type_of_literal, unary, unary_value, valued};
+ghost use Rattle.wgsl_spelling.specs.Values.{beside, binary, binary_value, binary_vectors, bool_of, compared, comparison_of, count, count_of, first_of, holds, literal, of_bools, operator_of, sign_in, sign_value, type_of_literal, unary, unary_value, unary_vector, valued};
 
 use crate::fault::{Cause, Expected, Stop, stop_at};
 use crate::item::{Item, Value};
 use crate::word::word;
 use std::cmp::Ordering;
-use wgsl_constants::call::CallError;
+use wgsl_constants::call::{CallError, Function, integer as integer_in};
 use wgsl_constants::constant::Constant;
 use wgsl_constants::integer::{Integer, IntegerOperator};
 use wgsl_constants::literal::{LiteralError, integer_of, type_of_number};
-use wgsl_constants::operator::{apply, compare, complement, negative, shift_left, shift_right};
+use wgsl_constants::operator::{compare, complement, negative};
+use wgsl_constants::vector::{Vector, made_of_two};
 use wgsl_reader::kind::Kind;
 use wgsl_reader::token::Token;
 use wgsl_syntax::scalar::Scalar;
@@ -250,20 +251,38 @@ fn of_bools(kind: Kind, a: bool, b: bool) -> Option<bool>
 fn sign_value(kind: Kind, a: Integer, b: Integer) -> Result<Integer, CallError>
     ensures { found result ≡ sign_value kind a b }
 {
-    match kind {
-        Kind::ShiftLeft => Ok(shift_left(a, b)?),
-        Kind::ShiftRight => Ok(shift_right(a, b)?),
-        _ => match operator_of(kind) {
-            Some(operator) => applied(operator, a, b),
-            None => Err(CallError::NotInteger),
-        },
+    made_of_two(operator_of(kind)?, a, b)
+}
+
+/// The vector of a `-` or a `~` in front of a vector, component by component. It is `NotInteger` of another sign.
+pub fn unary_vector(sign: Kind, v: Vector) -> Result<Vector, CallError>
+    ensures { found result ≡ unary_vector sign v }
+{
+    match sign {
+        Kind::Minus => v.each(Function::Negation),
+        Kind::Tilde => v.each(Function::Complement),
+        _ => Err(CallError::NotInteger),
     }
 }
 
-fn applied(operator: IntegerOperator, a: Integer, b: Integer) -> Result<Integer, CallError>
-    ensures { found result ≡ found (value operator a b) }
+/// The vector of an operator between two vectors, component by component. It is `NotInteger` of vectors of other lengths, and of an
+/// operator that makes no integers.
+pub fn binary_vectors(sign: Kind, v: Vector, w: Vector) -> Result<Vector, CallError>
+    ensures { found result ≡ binary_vectors sign v w }
 {
-    Ok(apply(operator, a, b)?)
+    v.each_of_two(operator_of(sign)?, w)
+}
+
+/// An integer beside a vector, as a vector as long. It is `NotInteger` of another constant, and of an operator that isn't arithmetic.
+pub fn beside(sign: Kind, constant: Constant, v: Vector) -> Result<Vector, CallError>
+    ensures { found result ≡ beside sign constant v }
+{
+    match sign {
+        Kind::Plus | Kind::Minus | Kind::Star | Kind::Slash | Kind::Percent => {
+            Ok(v.filled(integer_in(constant)?))
+        }
+        _ => Err(CallError::NotInteger),
+    }
 }
 
 /// The item of a value that begins with the first item.
@@ -276,18 +295,21 @@ pub fn valued(first: Item, constant: Constant) -> Item
     }
 }
 
-fn operator_of(kind: Kind) -> Option<IntegerOperator>
-    ensures { result ≡ operator_of kind }
+/// The operator that makes an integer of two; `NotInteger` of another sign.
+fn operator_of(kind: Kind) -> Result<Function, CallError>
+    ensures { found result ≡ operator_of kind }
 {
     match kind {
-        Kind::Plus => Some(IntegerOperator::Addition),
-        Kind::Minus => Some(IntegerOperator::Subtraction),
-        Kind::Star => Some(IntegerOperator::Multiplication),
-        Kind::Slash => Some(IntegerOperator::Division),
-        Kind::Percent => Some(IntegerOperator::Remainder),
-        Kind::Or => Some(IntegerOperator::BitwiseOr),
-        Kind::And => Some(IntegerOperator::BitwiseAnd),
-        Kind::Xor => Some(IntegerOperator::BitwiseXor),
-        _ => None,
+        Kind::Plus => Ok(Function::Operator(IntegerOperator::Addition)),
+        Kind::Minus => Ok(Function::Operator(IntegerOperator::Subtraction)),
+        Kind::Star => Ok(Function::Operator(IntegerOperator::Multiplication)),
+        Kind::Slash => Ok(Function::Operator(IntegerOperator::Division)),
+        Kind::Percent => Ok(Function::Operator(IntegerOperator::Remainder)),
+        Kind::Or => Ok(Function::Operator(IntegerOperator::BitwiseOr)),
+        Kind::And => Ok(Function::Operator(IntegerOperator::BitwiseAnd)),
+        Kind::Xor => Ok(Function::Operator(IntegerOperator::BitwiseXor)),
+        Kind::ShiftLeft => Ok(Function::ShiftLeft),
+        Kind::ShiftRight => Ok(Function::ShiftRight),
+        _ => Err(CallError::NotInteger),
     }
 }

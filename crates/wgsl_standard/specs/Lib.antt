@@ -9,3 +9,4 @@ pub mod Explained
 pub mod Texts
 pub mod Lines
 pub mod internal
+pub mod forms

@@ -9,7 +9,7 @@ use crate::names::{constructors, evaluation, find, find_function, is_other_type,
 use crate::operators::{binary_overloads, unary_overloads};
 use wgsl_syntax::operator::{BinaryOperator, UnaryOperator};
 use wgsl_syntax::overload::{Evaluation, Overload, Stages};
-use wgsl_tables::names::TEMPLATE_FUNCTIONS;
+use wgsl_syntax::tables::names::TEMPLATE_FUNCTIONS;
 
 /// What is called: an operator, a built-in function or a constructor.
 #[derive(Clone, Copy)]

@@ -11,7 +11,7 @@ use crate::callee::{Callee, is_name};
 use crate::names::{constructors, functions};
 use wgsl_syntax::nearest::{Nearest, word_of_wgsl};
 use wgsl_syntax::overload::{Evaluation, Overload};
-use wgsl_tables::names::TEMPLATE_FUNCTIONS;
+use wgsl_syntax::tables::names::TEMPLATE_FUNCTIONS;
 
 /// The name of what is called, if no built-in function, no constructor and no other predeclared type has it. An operator
 /// always has one.

@@ -1,4 +1,4 @@
-//! The names of WGSL: its enumerations, operators, texel formats, textures and samplers.
+//! The names of WGSL: its enumerations, operators, texel formats, textures and samplers, and the tables of its overloads.
 #![tactic(auto)]
 
 /// A table of an enumeration's names: `names! { Enumeration Variant "name" .. }`, in the order of its variants.
@@ -24,6 +24,7 @@ pub mod overload;
 pub mod result_struct;
 pub mod rules;
 pub mod scalar;
+pub mod tables;
 pub mod texel;
 pub mod texture;
 pub mod texture_name;

@@ -1,7 +1,7 @@
 // The operators of expressions and assignments.
 ghost use Rattle.std.specs.Prelude.{◌≡◌};
 ghost use Rattle.wgsl_syntax.specs.Names.{named, table, Reads};
-ghost use Rattle.wgsl_syntax.specs.Operator.{binary_operators, binary_text, unary_operators, unary_text};
+ghost use Rattle.wgsl_syntax.specs.Operator.{assignment_operators, assignment_text, binary_operators, binary_text, unary_operators, unary_text};
 
 use std::fmt;
 use std::fmt::Write;
@@ -258,8 +258,6 @@ static ASSIGNMENTS: &[(AssignmentOperator, &str)] = names! {
 };
 
 impl AssignmentOperator {
-    ghost use Rattle.wgsl_syntax.specs.Operator.{assignment_text};
-
     /// The name.
     fn text(self) -> &'static str
         ensures { result.now ≡ assignment_text self }
@@ -268,10 +266,29 @@ impl AssignmentOperator {
     }
 }
 
+/// The assignment operator that is written so.
+pub fn assignment_named(s: &str) -> Option<AssignmentOperator>
+    ensures { result ≡ named (table assignment_text assignment_operators) s.now }
+{
+    match s {
+        "=" => Some(AssignmentOperator::Equal),
+        "+=" => Some(AssignmentOperator::PlusEqual),
+        "-=" => Some(AssignmentOperator::MinusEqual),
+        "*=" => Some(AssignmentOperator::TimesEqual),
+        "/=" => Some(AssignmentOperator::DivisionEqual),
+        "%=" => Some(AssignmentOperator::ModuloEqual),
+        "&=" => Some(AssignmentOperator::AndEqual),
+        "|=" => Some(AssignmentOperator::OrEqual),
+        "^=" => Some(AssignmentOperator::XorEqual),
+        ">>=" => Some(AssignmentOperator::ShiftRightAssign),
+        "<<=" => Some(AssignmentOperator::ShiftLeftAssign),
+        _ => None,
+    }
+}
+
 impl fmt::Display for AssignmentOperator {
     ghost use Rattle.std.specs.Prelude.{Some};
     ghost use Rattle.std.specs.Fmt.{padded};
-    ghost use Rattle.wgsl_syntax.specs.Operator.{assignment_text};
 
     ghost output = { λ x. Some (assignment_text x) };
 

@@ -17,28 +17,28 @@ ghost use Rattle.wgsl_standard.specs.Resolved.{resolved_view, IsCallResolution};
 use std::alloc::Global;
 use wgsl_core::error::Fail;
 use wgsl_core::ty::Type;
-pub use wgsl_forms::address::{address_of, indirection};
-pub use wgsl_forms::array::{construct_array, construct_array_of};
-pub use wgsl_forms::assign::{assign, assign_by, binary_operator, increment};
-pub use wgsl_forms::concrete::{ConcreteType, concrete_scalar, has_abstract_type, made_concrete};
-pub use wgsl_forms::convert::converts;
-pub use wgsl_forms::declare::{
+pub use wgsl_standard::forms::address::{address_of, indirection};
+pub use wgsl_standard::forms::array::{construct_array, construct_array_of};
+pub use wgsl_standard::forms::assign::{assign, assign_by, binary_operator, increment};
+pub use wgsl_standard::forms::concrete::{ConcreteType, concrete_scalar, has_abstract_type, made_concrete};
+pub use wgsl_standard::forms::convert::converts;
+pub use wgsl_standard::forms::declare::{
     Declaration, declare, discard, is_const_type, is_let_type, override_without_value,
 };
-pub use wgsl_forms::expression::is_const_expression;
-pub use wgsl_forms::flow::{condition, return_value};
-pub use wgsl_forms::form::{Element, Form, FormType, MemoryView, UnbuiltType};
-pub use wgsl_forms::index::type_of_index;
-pub use wgsl_forms::kinds::{
+pub use wgsl_standard::forms::expression::is_const_expression;
+pub use wgsl_standard::forms::flow::{condition, return_value};
+pub use wgsl_standard::forms::form::{Element, Form, FormType, MemoryView, UnbuiltType};
+pub use wgsl_standard::forms::index::type_of_index;
+pub use wgsl_standard::forms::kinds::{
     has_fixed_footprint, is_constructible, is_handle, is_host_shareable, operand_is_constructible,
 };
-pub use wgsl_forms::layout::min_layout;
-pub use wgsl_forms::lists::{construct_struct, fit};
-pub use wgsl_forms::load::{load, load_type};
-pub use wgsl_forms::member::type_of_member;
-pub use wgsl_forms::refusal::Refusal;
-pub use wgsl_forms::switch::switch_type;
-pub use wgsl_forms::variable::{holds, initialized_variable, variable};
+pub use wgsl_standard::forms::layout::min_layout;
+pub use wgsl_standard::forms::lists::{construct_struct, fit};
+pub use wgsl_standard::forms::load::{load, load_type};
+pub use wgsl_standard::forms::member::type_of_member;
+pub use wgsl_standard::forms::refusal::Refusal;
+pub use wgsl_standard::forms::switch::switch_type;
+pub use wgsl_standard::forms::variable::{holds, initialized_variable, variable};
 pub use wgsl_standard::answer::NoOverload;
 use wgsl_standard::answer::type_of_call;
 pub use wgsl_standard::callee::{Callee, can_be_const_expression, overloads};

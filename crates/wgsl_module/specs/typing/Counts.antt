@@ -7,9 +7,9 @@ use Rattle.wgsl_constants.specs.Conversions.{number}
 use Rattle.wgsl_constants.specs.Literals.{then}
 use Rattle.wgsl_constants.specs.declared.constant.Constant.TheVariants as constants
 use Rattle.wgsl_constants.specs.declared.integer.Integer.{Integer}
-use Rattle.wgsl_forms.specs.Index.{is_index}
-use Rattle.wgsl_forms.specs.Questions.{asks}
-use Rattle.wgsl_forms.specs.Refusals.{Refusal, error}
+use Rattle.wgsl_standard.specs.forms.Index.{is_index}
+use Rattle.wgsl_standard.specs.forms.Questions.{asks}
+use Rattle.wgsl_standard.specs.forms.Refusals.{Refusal, error}
 use Rattle.wgsl_module.specs.declared.typing.known.Typed.{Typed}
 use Rattle.wgsl_module.specs.declared.typing.stage.Stage.{Stage}
 use Rattle.wgsl_module.specs.declared.typing.stage.Stage.TheVariants as stages

@@ -6,13 +6,13 @@ use Rattle.wgsl_rules.specs.types.Types.{WgslType}
 use Rattle.wgsl_syntax.specs.declared.address.AccessMode.{AccessMode}
 use Rattle.wgsl_syntax.specs.declared.address.AddressSpace.{AddressSpace}
 use Rattle.wgsl_syntax.specs.declared.address.AddressSpace.TheVariants.{Private}
-use Rattle.wgsl_forms.specs.Declare.{declared}
-use Rattle.wgsl_forms.specs.Flow.{condition}
-use Rattle.wgsl_forms.specs.Refusals.{Refusal}
-use Rattle.wgsl_forms.specs.Variable.{initialized_variable, variable}
-use Rattle.wgsl_forms.specs.declared.declare.Declaration.{Declaration}
-use Rattle.wgsl_forms.specs.declared.declare.Declaration.TheVariants as declarations
-use Rattle.wgsl_forms.specs.declared.form.Referent.TheVariants.{Whole}
+use Rattle.wgsl_standard.specs.forms.Declare.{declared}
+use Rattle.wgsl_standard.specs.forms.Flow.{condition}
+use Rattle.wgsl_standard.specs.forms.Refusals.{Refusal}
+use Rattle.wgsl_standard.specs.forms.Variable.{initialized_variable, variable}
+use Rattle.wgsl_standard.specs.declared.forms.declare.Declaration.{Declaration}
+use Rattle.wgsl_standard.specs.declared.forms.declare.Declaration.TheVariants as declarations
+use Rattle.wgsl_standard.specs.declared.forms.form.Referent.TheVariants.{Whole}
 use Rattle.wgsl_module.specs.typing.Known.{operand_where, typed_in}
 use Rattle.wgsl_module.specs.typing.Stages.{is_early}
 use Rattle.wgsl_module.specs.declared.typing.known.Outcome.{Outcome}

@@ -1,23 +1,19 @@
--- The values of operators on vectors, and of the elements of arrays, the members of structs and the components of vectors (WGSL,
--- "Expressions", "Composite Value Decomposition Expressions").
-use Rattle.std.specs.Prelude.{◌≡◌, ℕ, ℤ, pos, negsuc, List, [], ◌∷◌, ◌++◌, Bool, true, false, Option, Some, None, length, map, slice_get}
+-- The values of the elements of arrays, the members of structs and the components of vectors (WGSL, "Composite Value Decomposition
+-- Expressions").
+use Rattle.std.specs.Prelude.{◌≡◌, ℕ, ℤ, pos, List, [], ◌∷◌, ◌++◌, Bool, true, false, Option, Some, None, length, map, slice_get}
 use Rattle.std.specs.Option.{option_and_then}
 use Rattle.std.specs.declared.alloc.Global.{Global}
 use Rattle.std.specs.declared.vec.Vec.{Vec}
 use Rattle.wgsl_core.specs.View.{view}
 use Rattle.wgsl_rules.specs.types.Types.{WgslType}
-use Rattle.wgsl_constants.specs.Calls.{integer}
 use Rattle.wgsl_constants.specs.Conversions.{number}
-use Rattle.wgsl_constants.specs.Literals.{found, then}
+use Rattle.wgsl_constants.specs.Literals.{then}
 use Rattle.wgsl_constants.specs.Values.{map_value}
-use Rattle.wgsl_constants.specs.Vectors.{component, component_named}
+use Rattle.wgsl_constants.specs.Vectors.{element, member, swizzle}
 use Rattle.wgsl_constants.specs.declared.constant.Constant.TheVariants as constants
 use Rattle.wgsl_constants.specs.declared.integer.Integer.{Integer}
-use Rattle.wgsl_constants.specs.declared.vector.Component.{Component}
-use Rattle.wgsl_constants.specs.declared.vector.Component.TheVariants.{First, Second, Third, Fourth}
 use Rattle.wgsl_constants.specs.declared.vector.Vector.{Vector}
-use Rattle.wgsl_constants.specs.declared.vector.Vector.TheVariants as v
-use Rattle.wgsl_forms.specs.Memory.{behind}
+use Rattle.wgsl_standard.specs.forms.Memory.{behind}
 use Rattle.wgsl_module.specs.typing.Known.{typed_in}
 use Rattle.wgsl_module.specs.typing.Stages.{is_const}
 use Rattle.wgsl_module.specs.typing.StructNames.{index_of, struct_of}
@@ -30,29 +26,7 @@ use Rattle.wgsl_module.specs.declared.typing.structs.Declared.{Declared}
 use Rattle.wgsl_module.specs.declared.typing.structs.Structs.{Structs}
 use Rattle.wgsl_module.specs.declared.typing.value.Value.{Value}
 use Rattle.wgsl_module.specs.declared.typing.value.Value.TheVariants.{One, Several, Elements}
-use Rattle.wgsl_reader.specs.declared.kind.Kind.{Kind}
-use Rattle.wgsl_spelling.specs.Values.{binary_value}
-
--- Operators on vectors
-
--- `1 + 2`: an integer, if the operator makes one
-abbrev pub of_two : Kind → Integer → Integer → Option Integer
-of_two sign a b = then (binary_value sign (constants.Integer a) (constants.Integer b)) (λ x. found (integer x))
-
--- `vec2(1, 2) + vec2(3, 4)`, component by component
-abbrev pub each : Kind → Vector → Vector → Option Vector
-each sign (v.Two a b) (v.Two x y) = then (of_two sign a x) (λ p. map_value (v.Two p) (of_two sign b y))
-each sign (v.Three a b c) (v.Three x y z) =
-    then (of_two sign a x) (λ p. then (of_two sign b y) (λ q. map_value (v.Three p q) (of_two sign c z)))
-each sign (v.Four a b c d) (v.Four x y z w) =
-    then (of_two sign a x) (λ p. then (of_two sign b y) (λ q. then (of_two sign c z) (λ r. map_value (v.Four p q r) (of_two sign d w))))
-each sign other longer = None
-
--- the `2` of `vec3(1, 2, 3) + 2`, as long as the vector
-abbrev pub filled : Integer → Vector → Vector
-filled n (v.Two a b) = v.Two n n
-filled n (v.Three a b c) = v.Three n n n
-filled n (v.Four a b c d) = v.Four n n n n
+use Rattle.wgsl_spelling.specs.Names.{or_else}
 
 -- What is kept
 
@@ -72,21 +46,21 @@ kept_at kept which index = then (slice_get kept which) (λ values. then (slice_g
 
 -- Elements and members
 
-abbrev pub component_of : Vector → Component → Option Value
-component_of x which = map_value (λ n. One (constants.Integer n)) (component which x)
+abbrev pub one : Integer → Value
+one n = One (constants.Integer n)
 
-abbrev pub components : List Component
-components = First ∷ Second ∷ Third ∷ Fourth ∷ []
-
-abbrev pub element_of : List (Vec (Option Value) Global) → Value → ℕ → Option Value
-element_of kept (One x) n = None
-element_of kept (Several x) n = then (slice_get components n) (component_of x)
-element_of kept (Elements which) n = kept_at kept which n
+abbrev pub element_of : List (Vec (Option Value) Global) → Value → ℤ → Option Value
+element_of kept (Several x) n = map_value one (element n x)
+element_of kept (Elements which) (pos n) = kept_at kept which n
+element_of kept x n = None
 
 -- `vec2(4, 1)[0]`, `array(4, 1)[0]`
 abbrev pub element_at : List (Vec (Option Value) Global) → Option Value → ℤ → Option Value
-element_at kept value (pos n) = then value (λ x. element_of kept x n)
-element_at kept value (negsuc n) = None
+element_at kept value n = then value (λ x. element_of kept x n)
+
+-- `vec2(4, 1).x`, `vec2(4, 1).yx`
+abbrev pub components : List ℕ → Vector → Option Value
+components name x = or_else (map_value one (member name x)) (map_value Several (swizzle name x))
 
 -- the index of the member of a declared struct
 abbrev pub index_in : Option Declared → List ℕ → Option ℕ
@@ -95,7 +69,7 @@ index_in (Some d) name = index_of name d.members
 
 abbrev pub member_of : Structs → List (Vec (Option Value) Global) → List ℕ → WgslType → Value → Option Value
 member_of structs kept name t (One x) = None
-member_of structs kept name t (Several x) = then (component_named name) (component_of x)
+member_of structs kept name t (Several x) = components name x
 member_of structs kept name t (Elements which) = then (index_in (struct_of (behind t) structs) name) (kept_at kept which)
 
 -- `vec2(4, 1).x`, `S(4, 1).a`

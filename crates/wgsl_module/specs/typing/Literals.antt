@@ -8,7 +8,7 @@ use Rattle.wgsl_constants.specs.Values.{map_value}
 use Rattle.wgsl_constants.specs.declared.constant.Constant.TheVariants as constants
 use Rattle.wgsl_constants.specs.declared.integer.Integer.{Integer}
 use Rattle.wgsl_constants.specs.declared.integer.Integer.TheVariants.{Abstract, I32, U32}
-use Rattle.wgsl_forms.specs.declared.form.Referent.TheVariants.{Whole}
+use Rattle.wgsl_standard.specs.declared.forms.form.Referent.TheVariants.{Whole}
 use Rattle.wgsl_module.specs.typing.Faults.{last_of}
 use Rattle.wgsl_module.specs.declared.typing.known.Outcome.{Outcome}
 use Rattle.wgsl_module.specs.declared.typing.known.Outcome.TheVariants as outcomes

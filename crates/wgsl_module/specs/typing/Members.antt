@@ -2,8 +2,8 @@
 use Rattle.std.specs.Prelude.{◌≡◌, ℕ, suc, zero, List, [], ◌∷◌, Option, Some, None}
 use Rattle.wgsl_core.specs.View.{view}
 use Rattle.wgsl_rules.specs.types.Types.{Members, WgslType, member, no_members, pointer, reference, struct}
-use Rattle.wgsl_forms.specs.Member.{member_answer}
-use Rattle.wgsl_forms.specs.Memory.{behind}
+use Rattle.wgsl_standard.specs.forms.Member.{member_answer}
+use Rattle.wgsl_standard.specs.forms.Memory.{behind}
 use Rattle.wgsl_module.specs.typing.Faults.{last_of, up_to}
 use Rattle.wgsl_module.specs.typing.Known.{typed_in}
 use Rattle.wgsl_module.specs.typing.Stages.{is_const}

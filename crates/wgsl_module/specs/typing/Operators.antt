@@ -1,6 +1,6 @@
 -- What is done where an operator, an element or brackets are read (WGSL, "Expressions").
 use Rattle.std.specs.Prelude.{◌≡◌, ℕ, ◌-◌, List, [], ◌∷◌, Bool, true, false, Option, Some, None}
-use Rattle.wgsl_forms.specs.Index.{index_answer}
+use Rattle.wgsl_standard.specs.forms.Index.{index_answer}
 use Rattle.wgsl_module.specs.typing.Faults.{last_of, up_to}
 use Rattle.wgsl_module.specs.typing.Known.{operand, typed_in}
 use Rattle.wgsl_module.specs.typing.Stages.{later}

@@ -10,14 +10,14 @@ use Rattle.wgsl_rules.specs.types.Types.{WgslType, array, mat, scalar, struct, v
 use Rattle.wgsl_standard.specs.Callees.{WgslCallee, a_constructor, a_unary, can_be_const_expression}
 use Rattle.wgsl_standard.specs.Resolved.{IsCallResolution, resolved_view}
 use Rattle.wgsl_standard.specs.declared.resolved.ResolvedCall.{ResolvedCall}
-use Rattle.wgsl_forms.specs.Address.{address_answer, indirection_answer}
-use Rattle.wgsl_forms.specs.Array.{IsInferredArray, typed_array}
-use Rattle.wgsl_forms.specs.Expressions.{Expression}
-use Rattle.wgsl_forms.specs.Lists.{function, list_fits}
-use Rattle.wgsl_forms.specs.Memory.{behind}
-use Rattle.wgsl_forms.specs.Refusals.{Refusal}
-use Rattle.wgsl_forms.specs.declared.form.Referent.{Referent}
-use Rattle.wgsl_forms.specs.declared.form.Referent.TheVariants.{Whole, Swizzle}
+use Rattle.wgsl_standard.specs.forms.Address.{address_answer, indirection_answer}
+use Rattle.wgsl_standard.specs.forms.Array.{IsInferredArray, typed_array}
+use Rattle.wgsl_standard.specs.forms.Expressions.{Expression}
+use Rattle.wgsl_standard.specs.forms.Lists.{function, list_fits}
+use Rattle.wgsl_standard.specs.forms.Memory.{behind}
+use Rattle.wgsl_standard.specs.forms.Refusals.{Refusal}
+use Rattle.wgsl_standard.specs.declared.forms.form.Referent.{Referent}
+use Rattle.wgsl_standard.specs.declared.forms.form.Referent.TheVariants.{Whole, Swizzle}
 use Rattle.wgsl_module.specs.typing.Known.{typed_in}
 use Rattle.wgsl_module.specs.typing.Stages.{is_const, latest}
 use Rattle.wgsl_module.specs.declared.typing.known.Outcome.{Outcome}

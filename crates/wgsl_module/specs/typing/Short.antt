@@ -3,8 +3,8 @@
 use Rattle.std.specs.Prelude.{ℕ, List, [], Bool, true, false, Option, Some, None, cond, ◌≡◌}
 use Rattle.wgsl_syntax.specs.declared.scalar.Scalar.TheVariants.{Bool as TheBool, U32}
 use Rattle.wgsl_rules.specs.types.Types.{WgslType, Members, no_members, member, scalar, struct, atomic, array}
-use Rattle.wgsl_forms.specs.Kinds.{are_host_shareable, has_fixed_footprint, have_fixed_footprint, is_host_shareable}
-use Rattle.wgsl_forms.specs.Variable.{ends_in_array, may_end_members}
+use Rattle.wgsl_standard.specs.forms.Kinds.{are_host_shareable, has_fixed_footprint, have_fixed_footprint, is_host_shareable}
+use Rattle.wgsl_standard.specs.forms.Variable.{ends_in_array, may_end_members}
 
 -- what the rules ask of a struct as a whole
 pub record Facts : Type 0 where

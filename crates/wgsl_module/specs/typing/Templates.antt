@@ -16,7 +16,7 @@ use Rattle.wgsl_syntax.specs.declared.texture_name.TextureParameterKind.TheVaria
 use Rattle.wgsl_syntax.specs.declared.texture_name.TextureParameters.{TextureParameters}
 use Rattle.wgsl_syntax.specs.declared.texture_name.TextureParameters.TheVariants as parameters
 use Rattle.wgsl_constants.specs.Literals.{then}
-use Rattle.wgsl_forms.specs.Variable.{variable}
+use Rattle.wgsl_standard.specs.forms.Variable.{variable}
 use Rattle.wgsl_module.specs.typing.Faults.{last_of, up_to}
 use Rattle.wgsl_spelling.specs.declared.predeclared.LayerName.{LayerName}
 use Rattle.wgsl_spelling.specs.declared.predeclared.LayerName.TheVariants as layers

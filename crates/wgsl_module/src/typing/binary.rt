@@ -73,8 +73,7 @@ impl<'t> Expressions<'t> {
             ≡ with_item (Item.Part (part_of place outcome)) (with_parts (first ∷ second ∷ []) (stack self.old))) }
     {
         self.put(place, outcome)?;
-        self.note(first)?;
-        self.note(second)
+        self.note_both(first, second)
     }
 
     /// What stands behind the right operand of an operator is evaluated again.

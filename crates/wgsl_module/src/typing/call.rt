@@ -3,7 +3,7 @@ ghost use Rattle.std.specs.Prelude.{◌≡◌, IfOk, None, Some, option_map, tru
 ghost use Rattle.wgsl_core.specs.View.{view};
 ghost use Rattle.wgsl_standard.specs.Callees.{a_constructor, a_function, callee_view};
 ghost use Rattle.wgsl_module.specs.typing.Outcomes.{IsCall, IsOfFunction, OrFaulty, stage_of};
-ghost use Rattle.wgsl_module.specs.typing.Calls.{Argument, ArgumentIf, Calls, EndsCall, IsCallIf, IsCallOf, IsCallOfKnown, IsCallOfPredeclared, IsPartOfCall, Opens, are_typed, head, is_call_on};
+ghost use Rattle.wgsl_module.specs.typing.Calls.{Argument, ArgumentIf, Calls, EndsCall, IsCallIf, IsCallOf, IsCallOfKnown, IsCallOfPredeclared, IsPartOfCall, Opens, are_typed, head, is_call_on, is_in_call};
 ghost use Rattle.wgsl_module.specs.typing.Names.{context, known_of, word_in};
 ghost use Rattle.wgsl_module.specs.typing.Stacks.{stack, with_parts};
 ghost use Rattle.wgsl_module.specs.typing.Predeclared.{type_called};
@@ -72,16 +72,21 @@ impl<'t> Expressions<'t> {
         matches!(self.items.last(), Some(Item::Call(_, _)))
     }
 
+    /// Whether the operand on top is an argument of a call.
+    fn is_in_call(&self) -> bool
+        ensures { result ≡ is_in_call (stack self.now).items }
+    {
+        match self.items.split_last() {
+            Some((_, below)) => matches!(below.last(), Some(Item::Call(_, _))),
+            None => false,
+        }
+    }
+
     /// An argument of a call. One of an attribute stays where it is.
     pub fn put_argument(&mut self) -> Result<(), AllocError>
         ensures { IfOk result (λ u. Argument (stack self.old) (stack self.new)) }
     {
-        let Some(top) = self.items.pop() else {
-            return Ok(());
-        };
-        let is_argument = self.is_call_on_top();
-        self.push(top)?;
-        match is_argument {
+        match self.is_in_call() {
             true => self.put_argument_of_call(),
             false => Ok(()),
         }

@@ -1,22 +1,25 @@
-// Values of operators and calls, where they are integers or `bool` (WGSL, "Early Evaluation Expressions").
+// Values of operators and calls, where they are integers, vectors of them or `bool` (WGSL, "Early Evaluation Expressions").
 
-ghost use Rattle.std.specs.Prelude.{◌≡◌};
-ghost use Rattle.wgsl_constants.specs.Literals.{found};
-ghost use Rattle.wgsl_constants.specs.Values.{map_value};
-ghost use Rattle.wgsl_constants.specs.Vectors.{dot};
-ghost use Rattle.wgsl_module.specs.typing.Elements.{each, filled, of_two};
+ghost use Rattle.std.specs.Prelude.{◌≡◌, option_map};
+ghost use Rattle.wgsl_constants.specs.Calls.{conversion};
+ghost use Rattle.wgsl_constants.specs.Literals.{found, then};
+ghost use Rattle.wgsl_constants.specs.declared.call.Arguments.TheVariants.{Zero};
+ghost use Rattle.wgsl_core.specs.Forms.{scalar_of};
+ghost use Rattle.wgsl_core.specs.View.{view};
+ghost use Rattle.wgsl_module.specs.typing.Computed.{applied, binary, call, constructed, function_of, product, unary, vector_at, with_value, with_values};
+ghost use Rattle.wgsl_module.specs.typing.Values.{computed};
 
 use crate::typing::stage::Stage;
 use crate::typing::value::Value;
-use wgsl_constants::call::{Arguments, CallError, Function, integer};
+use wgsl_constants::call::{Arguments, CallError, Function};
 use wgsl_constants::constant::Constant;
 use wgsl_constants::integer::{Integer, IntegerError};
-use wgsl_constants::operator::negative;
 use wgsl_constants::vector::{COMPONENTS, Size, Vector};
 use wgsl_core::ty::Type;
 use wgsl_core::ty::form::Form;
 use wgsl_reader::kind::Kind;
 use wgsl_spelling::value;
+use wgsl_spelling::value::{beside, binary_vectors};
 use wgsl_syntax::operator::BinaryOperator;
 
 /// A value, if it is computed, or what is wrong with it.
@@ -35,100 +38,56 @@ fn said(error: IntegerError) -> &'static str {
     }
 }
 
-/// The value of operators and functions on constants, whose values are proved. Of other constants it isn't computed.
-fn of_constants(found: Result<Constant, CallError>) -> Computed {
-    match found {
-        Ok(constant) => Ok(Some(Value::One(constant))),
+/// The value of operators and functions on constants, or what is wrong with it. Of other constants it isn't computed.
+fn told(value: Result<Value, CallError>) -> Computed
+    ensures { computed result ≡ found value }
+{
+    match value {
+        Ok(value) => Ok(Some(value)),
         Err(CallError::Integer(error)) => Err(said(error)),
         Err(CallError::NotInteger | CallError::WrongArgumentCount) => Ok(None),
     }
 }
 
-/// The same of vectors.
-fn of_vectors(found: Result<Vector, CallError>) -> Computed {
-    match found {
-        Ok(vector) => Ok(Some(Value::Several(vector))),
-        Err(CallError::Integer(error)) => Err(said(error)),
-        Err(CallError::NotInteger | CallError::WrongArgumentCount) => Ok(None),
+/// The value of `-x`, `~x`, `!x`: of vectors component by component.
+pub fn unary_value(sign: Kind, value: Value) -> Computed
+    ensures { computed result ≡ unary sign value }
+{
+    told(unary(sign, value))
+}
+
+fn unary(sign: Kind, value: Value) -> Result<Value, CallError>
+    ensures { found result ≡ unary sign value }
+{
+    match value {
+        Value::One(x) => Ok(Value::One(value::unary_value(sign, x)?)),
+        Value::Several(x) => Ok(Value::Several(value::unary_vector(sign, x)?)),
+        Value::Elements(_) => Err(CallError::NotInteger),
     }
 }
 
-/// The value of `-x`, `~x`, `!x`.
-pub fn unary_value(sign: Kind, value: Value) -> Computed {
-    match (sign, value) {
-        (_, Value::One(x)) => of_constants(value::unary_value(sign, x)),
-        (Kind::Minus, Value::Several(x)) => match negatives(x) {
-            Ok(vector) => Ok(Some(Value::Several(vector))),
-            Err(error) => Err(said(error)),
-        },
-        _ => Ok(None),
-    }
+/// The value of a binary operator: of vectors component by component.
+pub fn binary_value(sign: Kind, x: Value, y: Value) -> Computed
+    ensures { computed result ≡ binary sign x y }
+{
+    told(binary(sign, x, y))
 }
 
-fn negatives(vector: Vector) -> Result<Vector, IntegerError> {
-    Ok(match vector {
-        Vector::Two(x, y) => Vector::Two(negative(x)?, negative(y)?),
-        Vector::Three(x, y, z) => Vector::Three(negative(x)?, negative(y)?, negative(z)?),
-        Vector::Four(x, y, z, w) => {
-            Vector::Four(negative(x)?, negative(y)?, negative(z)?, negative(w)?)
-        }
-    })
-}
-
-/// The value of a binary operator of scalars, or of vectors component by component.
-pub fn binary_value(sign: Kind, x: Value, y: Value) -> Computed {
-    match (x, y) {
-        (Value::One(x), Value::One(y)) => of_constants(value::binary_value(sign, x, y)),
-        (Value::Several(x), Value::Several(y)) => of_vectors(each(sign, x, y)),
-        (Value::Several(x), Value::One(Constant::Integer(y))) => {
-            of_vectors(each(sign, x, filled(x, y)))
-        }
-        (Value::One(Constant::Integer(x)), Value::Several(y)) => {
-            of_vectors(each(sign, filled(y, x), y))
-        }
-        _ => Ok(None),
-    }
-}
-
-/// The integers that an operator makes of the components of two vectors. It is `NotInteger` of vectors of other lengths, and of an
-/// operator that makes no integers.
-fn each(sign: Kind, x: Vector, y: Vector) -> Result<Vector, CallError>
-    ensures { found result ≡ each sign x y }
+fn binary(sign: Kind, x: Value, y: Value) -> Result<Value, CallError>
+    ensures { found result ≡ binary sign x y }
 {
     match (x, y) {
-        (Vector::Two(a, b), Vector::Two(x, y)) => {
-            Ok(Vector::Two(of_two(sign, a, x)?, of_two(sign, b, y)?))
+        (Value::One(x), Value::One(y)) => Ok(Value::One(value::binary_value(sign, x, y)?)),
+        (Value::Several(x), Value::Several(y)) => {
+            Ok(Value::Several(binary_vectors(sign, x, y)?))
         }
-        (Vector::Three(a, b, c), Vector::Three(x, y, z)) => Ok(Vector::Three(
-            of_two(sign, a, x)?,
-            of_two(sign, b, y)?,
-            of_two(sign, c, z)?,
-        )),
-        (Vector::Four(a, b, c, d), Vector::Four(x, y, z, w)) => Ok(Vector::Four(
-            of_two(sign, a, x)?,
-            of_two(sign, b, y)?,
-            of_two(sign, c, z)?,
-            of_two(sign, d, w)?,
-        )),
-        _ => Err(CallError::NotInteger),
-    }
-}
-
-/// The integer that an operator makes of two.
-fn of_two(sign: Kind, x: Integer, y: Integer) -> Result<Integer, CallError>
-    ensures { found result ≡ of_two sign x y }
-{
-    integer(value::binary_value(sign, Constant::Integer(x), Constant::Integer(y))?)
-}
-
-/// The vector as long as another with this integer for all components.
-fn filled(other: Vector, n: Integer) -> Vector
-    ensures { result ≡ filled n other }
-{
-    match other {
-        Vector::Two(_, _) => Vector::Two(n, n),
-        Vector::Three(_, _, _) => Vector::Three(n, n, n),
-        Vector::Four(_, _, _, _) => Vector::Four(n, n, n, n),
+        (Value::Several(x), Value::One(y)) => {
+            Ok(Value::Several(binary_vectors(sign, x, beside(sign, y, x)?)?))
+        }
+        (Value::One(x), Value::Several(y)) => {
+            Ok(Value::Several(binary_vectors(sign, beside(sign, x, y)?, y)?))
+        }
+        (Value::Elements(_), _) | (_, Value::Elements(_)) => Err(CallError::NotInteger),
     }
 }
 
@@ -187,45 +146,109 @@ fn wrong_by(
     }
 }
 
-/// The value of a call of a built-in function or of a constructor with these arguments.
-pub fn call_value(name: &str, template: Option<&Type>, values: &[Option<Value>]) -> Computed {
-    if let ("dot", [Some(Value::Several(x)), Some(Value::Several(y))]) = (name, values) {
-        return of_constants(product(*x, *y));
+/// The value of a call of a built-in function or of a constructor with these arguments, which have the types of its parameters.
+pub fn call_value(name: &str, template: Option<&Type>, values: &[Option<Value>]) -> Computed
+    ensures { computed result ≡ call name.now (option_map (λ t. view t.now) template.entry) values.now }
+{
+    told(call(name, template, values))
+}
+
+fn call(name: &str, template: Option<&Type>, values: &[Option<Value>]) -> Result<Value, CallError>
+    ensures { found result ≡ call name.now (option_map (λ t. view t.now) template.entry) values.now }
+{
+    if name == "dot" {
+        return product(values);
     }
-    let Some(arguments) = arguments_of(values) else {
-        return Ok(None);
-    };
-    if let Some(size) = Size::named(name) {
-        return match Vector::of(size, arguments) {
-            Ok(vector) => Ok(Some(Value::Several(vector))),
-            Err(_) => Ok(None),
-        };
-    }
-    let function = match (name, template) {
-        ("bitcast", Some(Type::I32)) => Some(Function::BitcastI32),
-        ("bitcast", Some(Type::U32)) => Some(Function::BitcastU32),
-        _ => Function::named(name),
-    };
-    match function {
-        Some(function) => of_constants(function.apply(arguments)),
-        None => Ok(None),
+    match Size::named(name) {
+        Some(size) => Ok(Value::Several(constructed(size, template, values)?)),
+        None => match function_of(name, template) {
+            Some(function) => applied(function, values),
+            None => Err(CallError::NotInteger),
+        },
     }
 }
 
 /// The `dot` of two vectors.
-fn product(x: Vector, y: Vector) -> Result<Constant, CallError>
-    ensures { found result ≡ map_value Constant.Integer (dot x y) }
+fn product(values: &[Option<Value>]) -> Result<Value, CallError>
+    ensures { found result ≡ product values.now }
 {
-    Ok(Constant::Integer(x.dot(y)?))
+    let product = vector_at(values, 0)?.dot(vector_at(values, 1)?)?;
+    Ok(Value::One(Constant::Integer(product)))
 }
 
-fn arguments_of(values: &[Option<Value>]) -> Option<Arguments> {
-    let mut arguments = Arguments::Zero;
-    for value in values {
-        match (*value)? {
-            Value::One(constant) => arguments = arguments.with(constant)?,
-            Value::Several(_) | Value::Elements(_) => return None,
-        }
+/// The vector that a constructor makes, whose components a template converts.
+fn constructed(
+    size: Size,
+    template: Option<&Type>,
+    values: &[Option<Value>],
+) -> Result<Vector, CallError>
+    ensures { found result ≡ constructed size (option_map (λ t. view t.now) template.entry) values.now }
+{
+    let vector = Vector::of(size, arguments_of(values)?)?;
+    match template {
+        Some(ty) => match conversion(ty) {
+            Some(function) => vector.each(function),
+            None => Err(CallError::NotInteger),
+        },
+        None => Ok(vector),
     }
-    Some(arguments)
+}
+
+/// The value of a function: of vectors component by component.
+fn applied(function: Function, values: &[Option<Value>]) -> Result<Value, CallError>
+    ensures { found result ≡ applied function values.now }
+{
+    match (vector_at(values, 0), vector_at(values, 1)) {
+        (Ok(x), Ok(y)) => Ok(Value::Several(x.each_of_two(function, y)?)),
+        (Ok(x), Err(_)) => Ok(Value::Several(x.each(function)?)),
+        (Err(_), _) => Ok(Value::One(function.apply(arguments_of(values)?)?)),
+    }
+}
+
+/// The argument at an index, if it is a vector; else `NotInteger`.
+fn vector_at(values: &[Option<Value>], index: usize) -> Result<Vector, CallError>
+    ensures { found result ≡ vector_at values.now index }
+{
+    match values.get(index) {
+        Some(Some(Value::Several(vector))) => Ok(*vector),
+        _ => Err(CallError::NotInteger),
+    }
+}
+
+/// The arguments, in which a vector counts as its components. It is `WrongArgumentCount` of more than four.
+fn arguments_of(values: &[Option<Value>]) -> Result<Arguments, CallError>
+    ensures { found result ≡ with_values values.now Zero }
+{
+    let mut given = Arguments::Zero;
+    for value in values {
+        given = with_value(*value, given)?;
+    }
+    Ok(given)
+}
+
+fn with_value(value: Option<Value>, given: Arguments) -> Result<Arguments, CallError>
+    ensures { found result ≡ with_value value given }
+{
+    match value {
+        Some(Value::One(constant)) => given.with(constant).ok_or(CallError::WrongArgumentCount),
+        Some(Value::Several(vector)) => vector.behind(given).ok_or(CallError::WrongArgumentCount),
+        Some(Value::Elements(_)) | None => Err(CallError::NotInteger),
+    }
+}
+
+/// The function with a name, and with this template; None of one whose values aren't computed.
+fn function_of(name: &str, template: Option<&Type>) -> Option<Function>
+    ensures { result ≡ function_of name.now (option_map (λ t. view t.now) template.entry) }
+{
+    if name == "bitcast" {
+        return Function::bitcast(template?.scalar()?);
+    }
+    Function::named(name)
+}
+
+/// The function that converts to a type of integers or floats.
+fn conversion(ty: &Type) -> Option<Function>
+    ensures { result ≡ then (scalar_of (view ty.now)) conversion }
+{
+    Function::conversion(ty.scalar()?)
 }

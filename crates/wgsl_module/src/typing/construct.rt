@@ -1,8 +1,8 @@
 // Constructors (WGSL, "Value Constructor Built-in Functions").
 ghost use Rattle.std.specs.Prelude.{◌≡◌, IfOk, true};
 ghost use Rattle.wgsl_core.specs.View.{view};
-ghost use Rattle.wgsl_forms.specs.Array.{typed_array};
-ghost use Rattle.wgsl_forms.specs.declared.form.Referent.TheVariants.{Whole};
+ghost use Rattle.wgsl_standard.specs.forms.Array.{typed_array};
+ghost use Rattle.wgsl_standard.specs.declared.forms.form.Referent.TheVariants.{Whole};
 ghost use Rattle.wgsl_module.specs.typing.Elements.{HasTaken, IsKept, is_typed};
 ghost use Rattle.wgsl_module.specs.typing.Outcomes.{HasType, IsConstructed, IsFound, IsInferred, IsMade, OrFaulty, stage_of, types_of, vector_name};
 ghost use Rattle.wgsl_module.specs.typing.Stacks.{stack};

@@ -2,7 +2,7 @@
 ghost use Rattle.std.specs.Prelude.{[], ◌≡◌, ◌∷◌, ◌++◌, ◌≤◌, IfOk, None, Some, option_map, reverse, true};
 ghost use Rattle.wgsl_constants.specs.Conversions.{number};
 ghost use Rattle.wgsl_core.specs.View.{view};
-ghost use Rattle.wgsl_forms.specs.Index.{is_index};
+ghost use Rattle.wgsl_standard.specs.forms.Index.{is_index};
 ghost use Rattle.wgsl_module.specs.typing.Known.{typed_in};
 ghost use Rattle.wgsl_rules.specs.types.Types.{array};
 ghost use Rattle.wgsl_module.specs.typing.Counts.{IsCountOf, const_count, count_of, integer_in, is_counted_by_override};
@@ -26,7 +26,7 @@ use wgsl_constants::constant::Constant;
 use wgsl_constants::integer::Integer;
 use wgsl_core::ty::Type;
 use wgsl_core::ty::form::Form;
-use wgsl_forms::variable::variable;
+use wgsl_standard::forms::variable::variable;
 use wgsl_syntax::address::AddressSpace;
 use wgsl_syntax::scalar::Scalar;
 

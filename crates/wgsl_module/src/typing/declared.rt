@@ -2,7 +2,7 @@
 ghost use Rattle.std.specs.Prelude.{◌≡◌, IfOk, option_map};
 ghost use Rattle.wgsl_core.specs.View.{view};
 ghost use Rattle.wgsl_module.specs.typing.Declarations.{IsDeclared, IsHeld, IsInitialized, IsVariable, declared_on, initializing, is_condition, stage_of_declaration, type_behind, value_of_declaration, value_of_variable};
-ghost use Rattle.wgsl_forms.specs.Views.{given};
+ghost use Rattle.wgsl_standard.specs.forms.Views.{given};
 ghost use Rattle.wgsl_module.specs.typing.Operators.{Initializer};
 ghost use Rattle.wgsl_module.specs.typing.Stacks.{below, below_declared, below_initializer, below_space, initializer_on, name_on, space_on, stack, with_items};
 ghost use Rattle.wgsl_module.specs.typing.Types.{DeclaredType};
@@ -17,10 +17,10 @@ use crate::typing::stage::Stage;
 use crate::typing::structs::behind;
 use std::alloc::AllocError;
 use wgsl_core::ty::Type;
-use wgsl_forms::declare::{Declaration, declare};
-use wgsl_forms::flow::condition;
-use wgsl_forms::refusal::Refusal;
-use wgsl_forms::variable::{initialized_variable, variable};
+use wgsl_standard::forms::declare::{Declaration, declare};
+use wgsl_standard::forms::flow::condition;
+use wgsl_standard::forms::refusal::Refusal;
+use wgsl_standard::forms::variable::{initialized_variable, variable};
 use wgsl_standard::operand::Operand;
 use wgsl_syntax::address::{AccessMode, AddressSpace};
 

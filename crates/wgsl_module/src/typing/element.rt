@@ -3,8 +3,8 @@ ghost use Rattle.std.specs.Prelude.{◌≡◌, IfOk, option_map, unwrap_or};
 ghost use Rattle.wgsl_constants.specs.Literals.{then};
 ghost use Rattle.wgsl_core.specs.View.{view};
 ghost use Rattle.wgsl_core.specs.internal.View.{members_view};
-ghost use Rattle.wgsl_forms.specs.Index.{index_answer};
-ghost use Rattle.wgsl_forms.specs.Member.{member_answer};
+ghost use Rattle.wgsl_standard.specs.forms.Index.{index_answer};
+ghost use Rattle.wgsl_standard.specs.forms.Member.{member_answer};
 ghost use Rattle.wgsl_module.specs.typing.Elements.{HasTaken, indexed, member_in};
 ghost use Rattle.wgsl_module.specs.typing.Known.{operand, typed_in};
 ghost use Rattle.wgsl_module.specs.typing.Values.{in_type};
@@ -26,7 +26,7 @@ use wgsl_constants::constant::Constant;
 use wgsl_constants::integer::Integer;
 use wgsl_core::ty::form::Form;
 use wgsl_core::ty::{StructMemberType, StructType, Type};
-use wgsl_forms::index::type_of_index;
+use wgsl_standard::forms::index::type_of_index;
 
 impl<'t> Expressions<'t> {
     /// `x.name`

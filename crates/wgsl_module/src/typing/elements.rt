@@ -3,7 +3,7 @@
 ghost use Rattle.std.specs.Prelude.{◌≡◌, IfOk, map, true};
 ghost use Rattle.wgsl_constants.specs.Literals.{then};
 ghost use Rattle.wgsl_core.specs.View.{view};
-ghost use Rattle.wgsl_module.specs.typing.Elements.{KeptIf, component_of, element_at, element_of, kept_at, member_in, value_in};
+ghost use Rattle.wgsl_module.specs.typing.Elements.{KeptIf, components, element_at, element_of, kept_at, member_in, one, value_in};
 ghost use Rattle.wgsl_module.specs.typing.Values.{in_type};
 ghost use Rattle.wgsl_module.specs.typing.Stacks.{stack};
 ghost use Rattle.wgsl_module.specs.typing.Stages.{is_const};
@@ -14,7 +14,8 @@ use crate::typing::stage::Stage;
 use crate::typing::value::{OutOfRange, Value};
 use std::alloc::{AllocError, Global};
 use wgsl_constants::constant::Constant;
-use wgsl_constants::vector::{COMPONENTS, Component, Vector};
+use wgsl_constants::integer::Integer;
+use wgsl_constants::vector::Vector;
 use wgsl_core::ty::Type;
 use wgsl_core::ty::form::Form;
 
@@ -52,17 +53,16 @@ impl<'t> Expressions<'t> {
     pub fn value_of_element(&self, value: Option<Value>, index: i64, ty: &Type) -> Option<Value>
         ensures { result ≡ then (element_at self.now.elements.items value index) (in_type (view ty.now)) }
     {
-        let index = usize::try_from(index).ok()?;
         self.element_of(value?, index)?.in_type(ty)
     }
 
-    fn element_of(&self, value: Value, index: usize) -> Option<Value>
+    fn element_of(&self, value: Value, index: i64) -> Option<Value>
         ensures { result ≡ element_of self.now.elements.items value index }
     {
         match value {
             Value::One(_) => None,
-            Value::Several(vector) => component_of(vector, *COMPONENTS.get(index)?),
-            Value::Elements(which) => self.kept(which, index),
+            Value::Several(vector) => Some(one(vector.element(index)?)),
+            Value::Elements(which) => self.kept(which, usize::try_from(index).ok()?),
         }
     }
 
@@ -72,7 +72,7 @@ impl<'t> Expressions<'t> {
     {
         let found = match x.value? {
             Value::One(_) => None,
-            Value::Several(vector) => component_of(vector, Component::named(name)?),
+            Value::Several(vector) => components(name, vector),
             Value::Elements(which) => {
                 let index = self.structs.declared(&x.ty)?.members.get(name)?;
                 self.kept(which, *index)
@@ -118,9 +118,18 @@ fn values_of(alloc: Global, parts: &[Part]) -> Result<Vec<Option<Value>>, AllocE
     Ok(values)
 }
 
-/// The component of a vector.
-fn component_of(vector: Vector, which: Component) -> Option<Value>
-    ensures { result ≡ component_of vector which }
+fn one(integer: Integer) -> Value
+    ensures { result ≡ one integer }
 {
-    Some(Value::One(Constant::Integer(vector.component(which)?)))
+    Value::One(Constant::Integer(integer))
+}
+
+/// The components of a vector with these letters.
+fn components(letters: &str, vector: Vector) -> Option<Value>
+    ensures { result ≡ components letters.now vector }
+{
+    match vector.member(letters) {
+        Some(integer) => Some(one(integer)),
+        None => Some(Value::Several(vector.swizzle(letters)?)),
+    }
 }

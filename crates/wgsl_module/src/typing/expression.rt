@@ -1,7 +1,7 @@
 // Expressions without calls (WGSL, "Expressions").
 ghost use Rattle.std.specs.Prelude.{◌≡◌, [], ◌∷◌, IfOk, None, is_some, option_map, true};
 ghost use Rattle.wgsl_core.specs.View.{view};
-ghost use Rattle.wgsl_forms.specs.Views.{answer_view, form_view, given};
+ghost use Rattle.wgsl_standard.specs.forms.Views.{answer_view, form_view, given};
 ghost use Rattle.wgsl_module.specs.typing.Elements.{HasTaken, is_typed};
 ghost use Rattle.wgsl_module.specs.typing.Known.{typed_in};
 ghost use Rattle.wgsl_spelling.specs.Operators.{unary_of};
@@ -24,12 +24,12 @@ use crate::typing::structs::behind;
 use crate::typing::value::Value;
 use std::alloc::AllocError;
 use wgsl_core::ty::Type;
-use wgsl_forms::address::{address_of, indirection};
-use wgsl_forms::form::{Form as FormOf, Referent};
-use wgsl_forms::refusal::Refusal;
 use wgsl_reader::kind::Kind;
 use wgsl_spelling::operator::{binary_of, unary_of};
 use wgsl_standard::answer::NoOverload;
+use wgsl_standard::forms::address::{address_of, indirection};
+use wgsl_standard::forms::form::{Form as FormOf, Referent};
+use wgsl_standard::forms::refusal::Refusal;
 use wgsl_standard::operand::Operand;
 use wgsl_standard::resolved::ResolvedCall;
 use wgsl_syntax::operator::UnaryOperator;

@@ -1,9 +1,10 @@
 // What is read of expressions, and what the names in them stand for.
-ghost use Rattle.std.specs.Prelude.{◌≡◌, [], ◌∷◌, IfOk, None, false, is_some, not, option_map, slice_get};
+ghost use Rattle.std.specs.Prelude.{◌≡◌, [], ◌∷◌, IfOk, None, false, is_some, length, not, option_map, slice_get};
 ghost use Rattle.wgsl_core.specs.View.{view};
-ghost use Rattle.wgsl_forms.specs.Views.{answer_view, form_type_view};
+ghost use Rattle.wgsl_standard.specs.forms.Views.{answer_view, form_type_view};
 ghost use Rattle.wgsl_module.specs.typing.Faults.{IsTold, IsToldIf};
 ghost use Rattle.wgsl_module.specs.typing.Declarations.{answer_of};
+ghost use Rattle.wgsl_module.specs.typing.Scopes.{scope_view};
 ghost use Rattle.wgsl_module.specs.typing.Stacks.{below, stack, with_item, with_items, with_parts};
 ghost use Rattle.wgsl_module.specs.typing.Words.{kind_at, kind_of_any, word_at};
 
@@ -18,11 +19,11 @@ use crate::typing::value::Value;
 use std::alloc::{AllocError, Global};
 use std::collections::BTreeMap;
 use wgsl_core::ty::Type;
-use wgsl_forms::form::FormType;
-use wgsl_forms::refusal::Refusal;
 use wgsl_reader::kind::Kind;
 use wgsl_reader::token::Token;
 use wgsl_spelling::word::word;
+use wgsl_standard::forms::form::FormType;
+use wgsl_standard::forms::refusal::Refusal;
 use wgsl_syntax::overload::Stages;
 
 /// What a function does that depends on the stage in which it runs.
@@ -102,6 +103,7 @@ impl<'t> Expressions<'t> {
         ensures parts { (stack result).parts ≡ [] }
         ensures text { (stack result).context.text ≡ text.now }
         ensures tokens { (stack result).context.tokens ≡ tokens.now }
+        ensures scope { scope_view (stack result).context.locals ≡ [] ∷ [] }
     {
         Expressions {
             alloc,
@@ -185,6 +187,19 @@ impl<'t> Expressions<'t> {
         Ok(())
     }
 
+    /// Notes two expressions that are used.
+    pub fn note_both(&mut self, first: Part, second: Part) -> Result<(), AllocError>
+        ensures { IfOk result (λ u. stack self.new ≡ with_parts (first ∷ second ∷ []) (stack self.old)) }
+    {
+        match self.note(first) {
+            Ok(()) => self.note(second),
+            Err(error) => {
+                drop(second);
+                Err(error)
+            }
+        }
+    }
+
     /// Says what is wrong.
     pub fn fault(&mut self, rule: Rule, place: Place, message: String) -> Result<(), AllocError>
         ensures answer { IfOk result (λ u. IsTold rule place self.old.faults.items self.new.faults.items) }
@@ -203,6 +218,7 @@ impl<'t> Expressions<'t> {
     /// Adds a note to the last fault.
     pub fn add_note(&mut self, place: Place, message: String) -> Result<(), AllocError>
         ensures stack { stack self.new ≡ stack self.old }
+        ensures faults { length self.new.faults.items ≡ length self.old.faults.items }
     {
         let message = self.as_written(message)?;
         if let Some(fault) = self.faults.last_mut() {
@@ -214,6 +230,7 @@ impl<'t> Expressions<'t> {
     /// Adds to the last fault where a name is declared.
     pub fn refer(&mut self, named: usize) -> Result<(), AllocError>
         ensures stack { stack self.new ≡ stack self.old }
+        ensures faults { length self.new.faults.items ≡ length self.old.faults.items }
     {
         let name = self.word(named);
         let message = format!(in self.alloc; "`{name}` is declared here")?;

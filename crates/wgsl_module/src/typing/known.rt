@@ -1,7 +1,7 @@
 // What names stand for, and what is known of an expression.
 ghost use Rattle.std.specs.Prelude.{◌≡◌, IfOk, None, false, option_map};
 ghost use Rattle.wgsl_core.specs.View.{view};
-ghost use Rattle.wgsl_forms.specs.Views.{given};
+ghost use Rattle.wgsl_standard.specs.forms.Views.{given};
 ghost use Rattle.wgsl_module.specs.typing.Elements.{value_in};
 ghost use Rattle.wgsl_module.specs.typing.Known.{operand, operand_where, typed_in};
 ghost use Rattle.wgsl_module.specs.typing.Stages.{is_early};
@@ -11,7 +11,7 @@ use crate::typing::stage::Stage;
 use crate::typing::value::Value;
 use std::alloc::{AllocError, Global};
 use wgsl_core::ty::Type;
-use wgsl_forms::form::Referent;
+use wgsl_standard::forms::form::Referent;
 use wgsl_standard::operand::Operand;
 
 /// An expression that has a type.

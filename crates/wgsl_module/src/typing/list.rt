@@ -18,9 +18,9 @@ use crate::typing::name::{Meaning, predeclared_type};
 use std::alloc::AllocError;
 use wgsl_core::ty::Type;
 use wgsl_core::ty::form::Form;
-use wgsl_forms::variable::variable;
 use wgsl_spelling::predeclared::{LayerName, PredeclaredType};
 use wgsl_standard::callee::{Callee, overloads};
+use wgsl_standard::forms::variable::variable;
 use wgsl_syntax::address::{AccessMode, AddressSpace};
 use wgsl_syntax::scalar::Scalar;
 

@@ -2,7 +2,7 @@
 ghost use Rattle.std.specs.Prelude.{◌≡◌, IfOk, None, option_map};
 ghost use Rattle.std.specs.Option.{option_and_then};
 ghost use Rattle.wgsl_core.specs.View.{view};
-ghost use Rattle.wgsl_forms.specs.declared.form.Referent.TheVariants.{Whole};
+ghost use Rattle.wgsl_standard.specs.declared.forms.form.Referent.TheVariants.{Whole};
 ghost use Rattle.wgsl_syntax.specs.TextureName.{texture_with};
 ghost use Rattle.wgsl_rules.specs.types.Types.{texture as a_texture};
 ghost use Rattle.wgsl_module.specs.typing.Names.{IsNamed, IsValue, context, declaration_of, is_skipped, known_of, local_of, meaning_at, type_named, value_of, value_of_known, value_of_local, with_known, word_in};

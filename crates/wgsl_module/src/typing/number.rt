@@ -2,7 +2,7 @@
 ghost use Rattle.std.specs.Prelude.{◌≡◌, IfOk, Some};
 ghost use Rattle.wgsl_constants.specs.Values.{map_value};
 ghost use Rattle.wgsl_core.specs.View.{view};
-ghost use Rattle.wgsl_forms.specs.declared.form.Referent.TheVariants.{Whole};
+ghost use Rattle.wgsl_standard.specs.declared.forms.form.Referent.TheVariants.{Whole};
 ghost use Rattle.wgsl_module.specs.declared.typing.stage.Stage.TheVariants.{Const};
 ghost use Rattle.wgsl_module.specs.declared.typing.value.Value.TheVariants.{One};
 ghost use Rattle.wgsl_rules.specs.types.Types.{scalar};

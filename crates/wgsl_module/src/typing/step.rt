@@ -46,7 +46,7 @@ impl<'t> Expressions<'t> {
 }
 
 /// Whether it is the `(` of a call, and no `{` of a block.
-fn is_round(word: Kind) -> bool
+pub fn is_round(word: Kind) -> bool
     ensures { result ≡ is_round word }
 {
     matches!(word, Kind::OpenRound)

@@ -1,7 +1,7 @@
 // Structs by name: in a type, a declared struct stands with few members that have the facts of all.
 ghost use Rattle.std.specs.Prelude.{ℕ, List, ◌≡◌, IfOk, None, option_map};
 ghost use Rattle.wgsl_core.specs.View.{view};
-ghost use Rattle.wgsl_forms.specs.Memory.{behind};
+ghost use Rattle.wgsl_standard.specs.forms.Memory.{behind};
 ghost use Rattle.wgsl_module.specs.typing.StructNames.{AreNamed, IsDeclaredAs, struct_named, struct_of};
 
 use std::alloc::{AllocError, Global};
@@ -9,7 +9,7 @@ use std::collections::BTreeMap;
 use wgsl_core::layout::placing::Placing;
 use wgsl_core::ty::form::Form;
 use wgsl_core::ty::{StructMemberType, StructType, Type};
-use wgsl_forms::kinds::{has_fixed_footprint, is_host_shareable};
+use wgsl_standard::forms::kinds::{has_fixed_footprint, is_host_shareable};
 use wgsl_syntax::rules::RuleSet;
 
 /// A struct as it is declared. The structs in the types of its members are short.

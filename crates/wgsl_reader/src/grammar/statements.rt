@@ -61,7 +61,7 @@ pub static STATEMENTS: &[(Rule, &[Line])] = grammar! {
         _ => [(Clause) (Clauses)]
     }
     Clause {
-        Default => [Default (ColonIfAny) (Body) {Default}]
+        Default => [Default {DefaultSelector} (ColonIfAny) (Body) {Case}]
         _ => [Case (CaseSelector) (MoreSelectors) (ColonIfAny) (Body) {Case}]
     }
     CaseSelector {

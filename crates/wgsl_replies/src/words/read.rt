@@ -107,6 +107,7 @@ fn read_next(count: usize, word: &str, words: &mut Words) -> Read<Option<Around>
 }
 
 /// Wraps the type in these layers, the last innermost.
+#[inline(always)]
 fn wrap(alloc: Global, layers: &[Around], innermost: Type) -> Made<Type>
     ensures { IfOk result (λ ty. view ty ≡ wrapped layers.now (view innermost)) }
 {

@@ -5,7 +5,7 @@ use Rattle.wgsl_syntax.specs.declared.overload.Evaluation.{Evaluation}
 use Rattle.wgsl_syntax.specs.declared.overload.Evaluation.TheVariants as evaluations
 use Rattle.wgsl_syntax.specs.declared.overload.Stages.{Stages}
 use Rattle.wgsl_syntax.specs.declared.overload.Stages.TheVariants as in_shaders
-use Rattle.wgsl_tables.specs.declared.names.TheConstants.{FUNCTIONS}
+use Rattle.wgsl_syntax.specs.declared.tables.names.TheConstants.{FUNCTIONS}
 use Rattle.wgsl_rules.specs.standard.Names.{value_named}
 
 unfoldable pub evaluation_table : List (List ℕ × Evaluation)

@@ -1,4 +1,4 @@
-use Rattle.wgsl_lines.proofs.Common.{◌≡◌, ◌≤◌, ◌∙◌, ◌+◌, ◌==◌, ℕ, ap, arith, eqb, length, not, prefix_len, sym, w8, chunk, bitmask_splat, leading_from_mask_l, length-chunk, trailing_mask_l}
+use Rattle.wgsl_lines.proofs.Common.{◌≡◌, ◌≤◌, ◌∙◌, ◌+◌, ◌==◌, ap, arith, eqb, length, not, prefix_len, sym, w8, chunk, bitmask_splat, leading_from_mask_l, length-chunk, trailing_mask_l}
 use lib.Count.{count_trailing_zeros}
 use Rattle.wgsl_lines.proofs.Feeds.{passed_more}
 use Rattle.wgsl_lines.proofs.line.without_feed.Goals as goal

@@ -1,8 +1,10 @@
-use Rattle.std.proofs.Common.{map, subst}
+use Rattle.std.proofs.Common.{[], false, map, subst}
 use Rattle.wgsl_module.specs.Checked.{told_of_reading}
+use Rattle.wgsl_module.specs.Declarations.{written_in}
+use Rattle.wgsl_module.specs.Recursion.{HasCallOrder}
 use Rattle.wgsl_module.specs.Told.{AreTold}
 use Rattle.wgsl_module.specs.Runs.{HasRuns}
-use Rattle.wgsl_module.proofs.Allowed.{read_whole}
+use Rattle.wgsl_module.proofs.Allowed.{all_read, read_whole}
 use Rattle.wgsl_module.proofs.Kept.{nothing_told}
 use Rattle.wgsl_module.proofs.module.check.Goals as goal
 use Rattle.wgsl_reader.specs.Modules.{ReadsModule}
@@ -27,4 +29,20 @@ returns-clause-parts c =
       subst (λ ts. ReadsModule (map kind_of ts) grammar.events.items grammar.misread.items) c.deref.ensures.value c.in_ok-grammar.ensures,
       subst (λ ts. HasRuns c.args.text.now ts grammar.events.items found.0 c.in_ok-checked.checked.parts.items) c.deref-3.ensures.value found.1,
       λ none. found.2 (nothing_told c.in_ok-checked.checked.faults.items c.tell_untyped.new.faults.items c.in_ok-tell_untyped.ensures.kept none),
+    )
+
+pub returns-clause-calls : goal.returns-clause-calls
+returns-clause-calls c = λ none.
+    let grammar = c.in_ok-grammar.grammar in
+    let tokens = c.in_ok-tokens.tokens.items in
+    let before = c.in_ok-checked.checked.faults.items in
+    let after = c.tell_untyped.new.faults.items in
+    let kept = c.in_ok-tell_untyped.ensures.kept in
+    let reads = subst (λ ts. ReadsModule (map kind_of ts) grammar.events.items grammar.misread.items) c.deref.ensures.value c.in_ok-grammar.ensures in
+    let told = subst (λ ts. AreTold (told_of_reading ts grammar.events.items grammar.misread.items) before) c.deref-3.ensures.value c.in_ok-checked.ensures.told in
+    let whole = all_read tokens grammar.events.items grammar.misread.items after (λ b h. kept b (told b h)) none in (
+      grammar.events.items,
+      subst (λ ms. ReadsModule (map kind_of tokens) grammar.events.items ms) whole reads,
+      subst (λ ts. HasCallOrder [] c.args.text.now ts (written_in false grammar.events.items)) c.deref-3.ensures.value
+          (c.in_ok-checked.ensures.calls whole (nothing_told before after kept none)),
     )

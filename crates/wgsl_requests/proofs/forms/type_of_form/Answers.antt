@@ -1,5 +1,5 @@
 use Rattle.wgsl_requests.proofs.Shared.{ap, map, subst, sym, ◌∙◌, view, types_of, constructed, answer_view, unbuilt_view, written_view}
-use Rattle.wgsl_forms.specs.Array.{IsInferredArray, typed_array}
+use Rattle.wgsl_standard.specs.forms.Array.{IsInferredArray, typed_array}
 use Rattle.wgsl_requests.proofs.Overloaded.{same_types}
 use Rattle.wgsl_requests.proofs.forms.type_of_form.Goals as goal
 

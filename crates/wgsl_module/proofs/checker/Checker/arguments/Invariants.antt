@@ -1,6 +1,6 @@
 use Rattle.std.proofs.Common.{◌≡◌, List, [], reverse, vec_len}
 use Rattle.wgsl_module.specs.Arguments.{AreArguments}
-use Rattle.wgsl_module.specs.Noted.{state}
+use Rattle.wgsl_module.specs.States.{state}
 use Rattle.wgsl_module.specs.declared.typing.known.Part.{Part}
 use Rattle.wgsl_module.proofs.checker.Checker.arguments.Given as goal
 

@@ -1,4 +1,4 @@
-use Rattle.wgsl_module.specs.Noted.{Keeps, state}
+use Rattle.wgsl_module.specs.States.{Keeps, state}
 use Rattle.wgsl_module.proofs.checker.Checker.check_values.Given as goal
 
 -- what is read stays as it is

@@ -1,6 +1,10 @@
-use Rattle.wgsl_module.specs.Noted.{Keeps, state}
+use Rattle.std.proofs.Common.{◌≡◌, drop}
+use Rattle.wgsl_module.specs.Runs.{AreParameters}
+use Rattle.wgsl_module.specs.States.{State, source, state}
 use Rattle.wgsl_module.proofs.checker.Checker.declare_parameters.Given as goal
 
--- what is read stays as it is
-abbrev pub invariant-loop-field : goal.invariant-loop-field
-invariant-loop-field l = Keeps (state l.fn.self) (state l.self)
+-- the parameters that are left, behind those that are declared, are all
+abbrev pub invariant-loop-event : goal.invariant-loop-event
+invariant-loop-event l =
+    ((r : State) → AreParameters (drop l.event-index l.events) (state l.self) r → AreParameters l.events (state l.fn.self) r) ×
+    (source (state l.self) ≡ source (state l.fn.self))

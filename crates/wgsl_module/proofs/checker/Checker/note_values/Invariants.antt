@@ -1,5 +1,5 @@
 use Rattle.std.proofs.Common.{◌≡◌}
-use Rattle.wgsl_module.specs.Noted.{noted, state}
+use Rattle.wgsl_module.specs.States.{noted, state}
 use Rattle.wgsl_module.proofs.checker.Checker.note_values.Given as goal
 
 -- those that are noted, and those that are left

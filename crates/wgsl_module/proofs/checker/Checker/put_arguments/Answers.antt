@@ -1,12 +1,13 @@
-use Rattle.std.proofs.Common.{◌≡◌, ◌∙◌, ◌++◌, [], ap, reverse, subst}
+use Rattle.std.proofs.Common.{◌≡◌, ◌∙◌, [], ap, reverse, subst}
 use Rattle.std.proofs.lemmas.Result.{IfOk-weaker}
 use Rattle.wgsl_module.specs.Arguments.{AreArguments, takes_names}
 use Rattle.wgsl_source.specs.Attributes.{attribute_names}
-use Rattle.wgsl_module.specs.Noted.{HasArguments, Reading, attribute_on, noted, reading, state}
+use Rattle.wgsl_module.specs.Noted.{HasArguments, attribute_on}
+use Rattle.wgsl_module.specs.States.{State, noted, state}
 use Rattle.wgsl_module.proofs.checker.Checker.put_arguments.Goals as goal
 use Rattle.wgsl_syntax.specs.Names.{named}
 use Rattle.wgsl_module.specs.typing.Names.{word_in}
-use Rattle.wgsl_module.specs.typing.Stacks.{below, name_on, stack, with_items}
+use Rattle.wgsl_module.specs.typing.Stacks.{Stack, below, name_on, stack, with_items}
 
 pub returns-clause-arguments : goal.returns-clause-arguments
 returns-clause-arguments c =
@@ -19,8 +20,7 @@ returns-clause-arguments c =
     let are = subst (λ b. AreArguments b (stack c.take_name-named.new.self).context (reverse c.in_ok-list.list.items) [] xs) takes c.in_ok-arguments.ensures.arguments in
     let there = subst (λ k. AreArguments (takes_names (attribute_on s.stack)) k (reverse c.in_ok-list.list.items) [] xs) (ap (λ t. t.context) left) are in
     let all = subst (λ l. AreArguments (takes_names (attribute_on s.stack)) s.stack.context (reverse l) [] xs) c.in_ok-list.ensures.list there in
-    let kept = c.put_attribute.ensures ∙ (ap reading c.arguments.ensures.state
-    ∙ ap (λ t. reading (record { stack = t; switches = s.switches; declarations = s.declarations })) left) in
-    let put = ap (λ (q : Reading). let p : Reading = record { items = q.items; parts = q.parts ++ xs; switches = q.switches; text = q.text; tokens = q.tokens; declarations = q.declarations } in p) kept in
+    let with_stack : Stack → State = λ t. record s { stack = t } in
+    let kept = c.put_attribute.ensures ∙ (c.arguments.ensures.state ∙ ap with_stack left) in
     IfOk-weaker c.note_values.result (λ u. state c.note_values.new.self ≡ noted xs (state c.put_attribute.new.self))
-    (λ u. HasArguments s (state c.note_values.new.self)) (λ u same. (xs, all, ap reading same ∙ put)) c.note_values.ensures
+    (λ u. HasArguments s (state c.note_values.new.self)) (λ u same. (xs, all, same ∙ ap (noted xs) kept)) c.note_values.ensures

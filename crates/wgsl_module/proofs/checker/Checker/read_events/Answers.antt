@@ -1,5 +1,6 @@
 use Rattle.std.proofs.Common.{subst, sym}
-use Rattle.wgsl_module.specs.Noted.{Comes, state}
+use Rattle.wgsl_module.specs.Noted.{Comes}
+use Rattle.wgsl_module.specs.States.{state}
 use Rattle.wgsl_module.proofs.Runs.{one_behind_other}
 use Rattle.wgsl_module.proofs.checker.Checker.read_events.Goals as goal
 

@@ -1,5 +1,6 @@
 use Rattle.std.proofs.Common.{◌≡◌, drop}
-use Rattle.wgsl_module.specs.Noted.{Comes, State, source, state}
+use Rattle.wgsl_module.specs.Noted.{Comes}
+use Rattle.wgsl_module.specs.States.{State, source, state}
 use Rattle.wgsl_module.proofs.checker.Checker.steps.Given as goal
 
 -- what comes of the events that are left comes of all

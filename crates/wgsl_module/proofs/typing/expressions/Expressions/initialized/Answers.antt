@@ -1,6 +1,6 @@
 use Rattle.std.proofs.Common.{option_map, sym, ap, ◌∙◌}
 use Rattle.wgsl_module.proofs.Common.{view, type_behind, value_of_variable}
-use Rattle.wgsl_forms.specs.Variable.{initialized_variable}
+use Rattle.wgsl_standard.specs.forms.Variable.{initialized_variable}
 use Rattle.wgsl_module.specs.declared.typing.stage.Stage.TheVariants.{Runtime}
 use Rattle.wgsl_module.proofs.Outcomes.{held_for}
 use Rattle.wgsl_module.proofs.typing.expressions.Expressions.initialized.Goals as goal

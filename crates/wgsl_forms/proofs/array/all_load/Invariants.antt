@@ -1,6 +1,0 @@
-use Rattle.std.proofs.Common.{◌≡◌, drop}
-use Rattle.wgsl_forms.proofs.Common.{types_given, all_load}
-use Rattle.wgsl_forms.proofs.array.all_load.Given as goal
-
-abbrev pub invariant-loop-value : goal.invariant-loop-value
-invariant-loop-value l = all_load (types_given (drop l.value-index l.values)) ≡ all_load (types_given l.values)

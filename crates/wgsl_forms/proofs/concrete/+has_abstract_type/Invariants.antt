@@ -1,5 +1,0 @@
-use Rattle.wgsl_forms.proofs.Common.{view, layers}
-use Rattle.wgsl_forms.proofs.concrete.+has_abstract_type.Given as goal
-
-abbrev pub decreases-has_abstract_type : goal.decreases-has_abstract_type
-decreases-has_abstract_type l = layers (view l.ty.now)

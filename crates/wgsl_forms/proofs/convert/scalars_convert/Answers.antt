@@ -1,5 +1,0 @@
-use Rattle.wgsl_forms.proofs.Layers.{by_rank}
-use Rattle.wgsl_forms.proofs.convert.scalars_convert.Goals as goal
-
-pub returns : goal.returns
-returns c = rw c.is_some.ensures (by_rank _ _ c.scalar_rank.result c.scalar_rank.ensures)

@@ -1,6 +1,0 @@
-use Rattle.wgsl_core.specs.View.{view}
-use Rattle.wgsl_forms.proofs.ConcreteTypes.{makes_concrete}
-use Rattle.wgsl_forms.proofs.laws.makes_concrete.Goals as goal
-
-pub returns : goal.returns
-returns c = makes_concrete (view c.args.ty.now)

@@ -1,7 +1,0 @@
-use Rattle.std.proofs.Common.{◌≡◌, drop, map}
-use Rattle.wgsl_forms.proofs.Common.{view, types_given, each_fits}
-use Rattle.wgsl_forms.proofs.lists.each_fits.Given as goal
-
-abbrev pub invariant-loop-i : goal.invariant-loop-i
-invariant-loop-i l =
-    each_fits (map view (drop l.i l.types)) (types_given (drop l.i l.values)) ≡ each_fits (map view l.types) (types_given l.values)

@@ -1,6 +1,0 @@
-use Rattle.std.proofs.Common.{◌≡◌, drop, map}
-use Rattle.wgsl_forms.proofs.Common.{first_concrete, given}
-use Rattle.wgsl_forms.proofs.switch.first_concrete.Given as goal
-
-abbrev pub invariant-loop-value : goal.invariant-loop-value
-invariant-loop-value l = first_concrete (map given (drop l.value-index l.values)) ≡ first_concrete (map given l.values)

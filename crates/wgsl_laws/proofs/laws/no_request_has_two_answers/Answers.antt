@@ -1,5 +1,0 @@
-use Rattle.wgsl_requests.proofs.OneAnswer.{answer_once}
-use Rattle.wgsl_laws.proofs.laws.no_request_has_two_answers.Goals as goal
-
-pub returns : goal.returns
-returns c = answer_once

@@ -1,4 +1,0 @@
-//! Every request has an answer.
-#![tactic(auto)]
-
-pub mod laws;

@@ -1,0 +1,36 @@
+-- What is declared may be faulty.
+use Rattle.std.proofs.Common.{◌≡◌, Bool, true, false, Option, Some, None, Result, ap, cond, option_copied, option_map, refl}
+use Rattle.std.proofs.Common.{Bor}
+use Rattle.wgsl_rules.specs.types.Types.{WgslType}
+use Rattle.wgsl_standard.specs.forms.Refusals.{Refusal}
+use Rattle.wgsl_standard.specs.forms.Variable.{initialized_variable}
+use Rattle.wgsl_syntax.specs.declared.address.AccessMode.{AccessMode}
+use Rattle.wgsl_syntax.specs.declared.address.AddressSpace.{AddressSpace}
+use Rattle.wgsl_module.specs.typing.Declarations.{IsHeldFor, IsVariable, initializing, type_behind, value_of_variable}
+use Rattle.wgsl_module.specs.declared.typing.declared.Declared.{Declared}
+use Rattle.wgsl_module.specs.declared.typing.declared.Declared.TheVariants as types
+use Rattle.wgsl_module.specs.declared.typing.known.Outcome.{Outcome}
+use Rattle.wgsl_module.specs.declared.typing.known.Part.{Part}
+use Rattle.wgsl_module.specs.declared.typing.known.Typed.{Typed}
+use Rattle.wgsl_module.specs.declared.typing.stage.Stage.{Stage}
+use Rattle.wgsl_module.specs.declared.typing.stage.Stage.TheVariants as stages
+
+none_for : (answer : Typed → Result WgslType Refusal) (stage : Stage) (value : Option Typed) → IsHeldFor answer stage value None
+none_for answer stage None = refl
+none_for answer stage (Some v) = tt
+
+none_fits : (space : AddressSpace) (access : Option AccessMode) (o : Option Outcome) (ty : Declared) → IsVariable space access o ty None
+none_fits space access (Some o) ty = none_for (λ v. initialized_variable space access (value_of_variable space v) (type_behind ty)) stages.Runtime (initializing ty o)
+none_fits space access None (types.Type ty) = tt
+none_fits space access None types.No = refl
+none_fits space access None types.Faulty = refl
+
+pub held_or_none : (is_held : Bool) (space : AddressSpace) (access : Option AccessMode) (o : Option Outcome) (ty : Declared) (typed : Option Typed)
+    → IsVariable space access o ty typed → IsVariable space access o ty (cond is_held typed None)
+held_or_none true space access o ty typed is = is
+held_or_none false space access o ty typed is = none_fits space access o ty
+
+pub outcome_behind : (seen : Option (Bor Part)) (part : Option Part) → option_copied seen ≡ part
+    → option_map (λ (p : Bor Part). p.now.outcome) seen ≡ option_map (λ (p : Part). p.outcome) part
+outcome_behind None part is = ap (option_map (λ (p : Part). p.outcome)) is
+outcome_behind (Some p) part is = ap (option_map (λ (p : Part). p.outcome)) is
