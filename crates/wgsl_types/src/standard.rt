@@ -17,10 +17,16 @@ ghost use Rattle.wgsl_standard.specs.Resolved.{resolved_view, IsCallResolution};
 use std::alloc::Global;
 use wgsl_core::error::Fail;
 use wgsl_core::ty::Type;
+pub use wgsl_standard::answer::NoOverload;
+use wgsl_standard::answer::type_of_call;
+pub use wgsl_standard::callee::{Callee, can_be_const_expression, overloads};
+pub use wgsl_standard::explanation::{Note, explain};
 pub use wgsl_standard::forms::address::{address_of, indirection};
 pub use wgsl_standard::forms::array::{construct_array, construct_array_of};
 pub use wgsl_standard::forms::assign::{assign, assign_by, binary_operator, increment};
-pub use wgsl_standard::forms::concrete::{ConcreteType, concrete_scalar, has_abstract_type, made_concrete};
+pub use wgsl_standard::forms::concrete::{
+    ConcreteType, concrete_scalar, has_abstract_type, made_concrete,
+};
 pub use wgsl_standard::forms::convert::converts;
 pub use wgsl_standard::forms::declare::{
     Declaration, declare, discard, is_const_type, is_let_type, override_without_value,
@@ -39,10 +45,6 @@ pub use wgsl_standard::forms::member::type_of_member;
 pub use wgsl_standard::forms::refusal::Refusal;
 pub use wgsl_standard::forms::switch::switch_type;
 pub use wgsl_standard::forms::variable::{holds, initialized_variable, variable};
-pub use wgsl_standard::answer::NoOverload;
-use wgsl_standard::answer::type_of_call;
-pub use wgsl_standard::callee::{Callee, can_be_const_expression, overloads};
-pub use wgsl_standard::explanation::{Note, explain};
 pub use wgsl_standard::meant::{meant, unknown_name};
 pub use wgsl_standard::operand::{Operand, OperandType};
 pub use wgsl_standard::refusal::{Mismatch, refused_by};
