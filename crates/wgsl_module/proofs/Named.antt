@@ -2,7 +2,6 @@
 use Rattle.std.proofs.Common.{◌≡◌, ◌∙◌, ◌+◌, ◌<◌, ◌≤◌, ◌⊎◌, ℕ, zero, suc, List, [], ◌∷◌, ◌++◌, Bool, true, false, Contains, Option, Some, None, ap, ap₂, arith, bytes_eq, cond, drop, get_or, inl, inr, is_some, length, map, option_map, refl, slice_get, subst, sym, take}
 use Rattle.std.proofs.Common.{drop-cons, take_all}
 use Rattle.std.specs.List.{cons_option}
-use Rattle.std.proofs.lemmas.List.{drop_all}
 use Rattle.std.proofs.lemmas.List.Elements.{Contains-append_left, Contains-append_right, Contains-push}
 use Rattle.std.proofs.lemmas.List.{length-map}
 use Rattle.std.proofs.lemmas.Slice.Eq.{bytes_eq-Decides}
@@ -44,15 +43,6 @@ pub no_words : (n : Naming) (mark : Mark) (own : Option ℕ) (are : Bool) (count
 no_words n m.Name own false count k name is = refl
 no_words n m.Name own true count k name is = cc is
 no_words n other own are count k name is = cc is
-
-pub names_one : (n : Naming) (own : Option ℕ) (are : Bool) (events : List Event) (i k : ℕ) (d : Event) → i < length events
-    → named_at n (get_or events i d).mark own are (get_or events i d).at ≡ Some k
-    → named_in n own are (drop i events) ≡ k ∷ named_in n own false (drop (i + 1) events)
-names_one n own are events i k d inside is = by_event n own are events i d inside
-    ∙ ap₂ (λ o b. cons_option o (named_in n own b (drop (i + 1) events))) is (no_words n _ own are _ k _ is)
-
-pub names_none : (n : Naming) (own : Option ℕ) (are : Bool) (events : List Event) (i : ℕ) → length events ≤ i → named_in n own are (drop i events) ≡ []
-names_none n own are events i past = ap (named_in n own are) (drop_all i events past)
 
 -- Other namings of the same text
 
@@ -232,15 +222,6 @@ one_more_named s r index inside keeps names is name =
 pub all_have_names : (c : Checker) (index : ℕ) → length c.declarations.items ≤ index → HaveNames c (take index (map written c.declarations.items))
     → HaveNames c (map written c.declarations.items)
 all_have_names c index end names = subst (HaveNames c) (take_all index (map written c.declarations.items) (omega (arith, end, length-map c.declarations.items written))) names
-
--- another one has the name
-pub name_kept : (word : List ℕ) (index first : ℕ) (old new : Index) → new ≡ old → index_of word old ≡ Some first
-    → (name : List ℕ) → index_of name new ≡ unless_called (bytes_eq word name) index (index_of name old)
-name_kept word index first old new same found name = ap (index_of name) same ∙ go (bytes_eq word name) (bytes_eq-Decides word name).0
-  where
-    go : (b : Bool) → (b ≡ true → word ≡ name) → index_of name old ≡ unless_called b index (index_of name old)
-    go true is = let there = subst (λ n. index_of n old ≡ Some first) (is refl) found in there ∙ sym (ap (unless_called true index) there)
-    go false is = refl
 
 -- none has it
 pub name_given : (key : Bor (List ℕ)) (index : ℕ) (old new : Index) → Gives key (Some index) old new → index_of key.now old ≡ None

@@ -3,7 +3,7 @@ use Rattle.std.proofs.lemmas.List.Elements.{Contains-append_cases, Contains-appe
 use Rattle.std.proofs.Common.{ap₂, ◌≡◌, ◌≢◌, ◌∙◌, ◌+◌, ◌<◌, ◌≤◌, ◌⊎◌, ℕ, zero, suc, List, [], ◌∷◌, ◌++◌, Bool, true, false, Contains, Option, Some, ap, arith, cond, get_or, inl, inr, length, nat_eq, refl, replicate, set, slice_get, subst, sym}
 use Rattle.std.proofs.Math.Dec.{eqb-suc-suc, eqb-suc-zero, eqb-zero-suc}
 use Rattle.std.proofs.lemmas.List.Sums.{get_or-le-sum_by, sum_by-cons, sum_by_push}
-use Rattle.wgsl_module.specs.Order.{HasEach, times_in}
+use Rattle.wgsl_module.specs.Order.{times_in}
 use Rattle.wgsl_module.specs.declared.walk.State.{State}
 use Rattle.wgsl_module.specs.declared.walk.State.TheVariants.{Done, Unseen}
 
@@ -70,11 +70,6 @@ last_too from to states new stays len last done i above below inside = elim (bef
   | inl before ↦ stays i (done i above before (omega (arith, len, inside)))
   | inr at ↦ subst (λ k. is_done (slice_get new k) ≡ true) (sym at) (last (omega (arith, at, inside)))
 ]
-
-pub all_ordered : (from to root : ℕ) (states : List State) (order : List ℕ) → to ≤ root → to ≤ length states → IsOrder states order → AreDone from root states
-    → HasEach from to order
-all_ordered from to root states order end inside ordered done i above below =
-    ordered i ∙ ap (λ b. cond b 1 0) (done i above (omega (arith, below, end)) (omega (arith, below, inside)))
 
 -- What stands in an order
 

@@ -1,10 +1,10 @@
 -- What is taken from a template list, and what is left of it.
-use Rattle.std.proofs.Common.{◌≡◌, ◌∙◌, ◌≤◌, List, [], ◌∷◌, ◌++◌, Bool, true, false, ap, append_assoc, arith, inl, inr, length, refl, reverse, subst, sym}
-use Rattle.std.proofs.lemmas.List.{append-nil, reverse-append}
+use Rattle.std.proofs.Common.{◌≡◌, ◌∙◌, ◌≤◌, List, [], ◌∷◌, ◌++◌, Bool, true, false, ap, arith, inl, inr, length, refl, reverse, subst, sym}
+use Rattle.std.proofs.lemmas.List.{append-nil}
 use Rattle.wgsl_module.specs.declared.typing.known.Part.{Part}
 use Rattle.wgsl_module.specs.typing.Names.{Context}
 use Rattle.wgsl_module.specs.typing.Stacks.{IsOperand, Stack, below, with_parts}
-use Rattle.wgsl_module.specs.typing.Taken.{TakesCount, TakesFrom, TakesIf, expressions_in}
+use Rattle.wgsl_module.specs.typing.Taken.{TakesCount, TakesIf, expressions_in}
 use Rattle.wgsl_module.specs.typing.Types.{no_type_on}
 use Rattle.wgsl_module.specs.declared.typing.item.Item.{Item}
 use Rattle.wgsl_module.specs.declared.typing.item.Item.TheVariants as items
@@ -12,39 +12,6 @@ use Rattle.wgsl_module.specs.declared.typing.item.Item.TheVariants as items
 first_alone : (i : Item) (rest : List Item) → no_type_on (i ∷ rest) ≡ no_type_on (i ∷ [])
 first_alone (items.Part x) rest = refl
 first_alone other rest = refl
-
--- a type is taken
-pub first_and_rest : (listed : List Item) (xs ys : List Part) → ys ≡ xs ++ no_type_on listed → TakesFrom listed (below listed) xs ys
-first_and_rest [] xs ys is = ap (λ ps. ps ++ []) (is ∙ append-nil xs)
-first_and_rest (items.Part x ∷ rest) xs ys is = ap (λ ps. ps ++ expressions_in rest) is ∙ append_assoc xs (x ∷ []) (expressions_in rest)
-first_and_rest (other ∷ rest) xs ys is = ap (λ ps. ps ++ expressions_in rest) (is ∙ append-nil xs)
-
--- the item at the end of a vector is the first of the list
-front : (old new : List Item) (i : Item) → old ≡ new ++ i ∷ [] → reverse old ≡ i ∷ reverse new
-front old new i is = ap reverse is ∙ reverse-append new (i ∷ [])
-
-pub first_taken : (old new : List Item) (i : Item) → old ≡ new ++ i ∷ [] → no_type_on (i ∷ []) ≡ no_type_on (reverse old)
-first_taken old new i is = sym (ap no_type_on (front old new i is) ∙ first_alone i (reverse new))
-
--- a name is taken
-pub name_taken : (old new : List Item) (i : Item) → old ≡ new ++ i ∷ [] → expressions_in (i ∷ reverse new) ≡ expressions_in (reverse new)
-    → expressions_in (reverse new) ≡ expressions_in (reverse old)
-name_taken old new i is none = sym (ap expressions_in (front old new i is) ∙ none)
-
--- what is left is used
-pub part_noted : (old new : List Item) (x : Part) (s t : Stack) → old ≡ new ++ items.Part x ∷ [] → t ≡ with_parts (x ∷ []) s
-    → with_parts (expressions_in (reverse new)) t ≡ with_parts (expressions_in (reverse old)) s
-part_noted old new x s t is noted = ap (with_parts (expressions_in (reverse new))) noted
-    ∙ (ap (λ ps. record { items = s.items; parts = ps; context = s.context }) (append_assoc s.parts (x ∷ []) (expressions_in (reverse new)))
-    ∙ ap (λ listed. with_parts (expressions_in listed) s) (sym (front old new (items.Part x) is)))
-
-passed : (i : Item) (rest : List Item) → ((x : Part) → i ≡ items.Part x → ⊥) → expressions_in (i ∷ rest) ≡ expressions_in rest
-passed (items.Part x) rest none = absurd (none x refl)
-passed other rest none = refl
-
-pub item_passed : (old new : List Item) (i : Item) (s : Stack) → old ≡ new ++ i ∷ [] → ((x : Part) → i ≡ items.Part x → ⊥)
-    → with_parts (expressions_in (reverse new)) s ≡ with_parts (expressions_in (reverse old)) s
-item_passed old new i s is none = ap (λ ps. with_parts ps s) (name_taken old new i is (passed i (reverse new) none))
 
 pub none_left : (list : List Item) (s t : Stack) → list ≡ [] → with_parts (expressions_in (reverse list)) s ≡ t → s ≡ t
 none_left list s t none is = sym (ap (λ ps. record { items = s.items; parts = ps; context = s.context }) (append-nil s.parts))

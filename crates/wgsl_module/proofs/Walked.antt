@@ -3,12 +3,12 @@ use Rattle.std.proofs.Common.{◌≡◌, ◌≢◌, ◌∙◌, ◌+◌, ◌<◌,
 use Rattle.std.proofs.lemmas.List.{map_push, reverse-append}
 use Rattle.std.proofs.lemmas.List.Elements.{Contains-append_left, Contains-push}
 use Rattle.std.proofs.lemmas.List.Sums.{sum_by_push}
-use Rattle.wgsl_module.specs.Order.{Begins, GoesOn, HasEach, IsBehind, IsClosed, LeadsOn, begun}
+use Rattle.wgsl_module.specs.Order.{Begins, GoesOn, IsBehind, IsClosed, LeadsOn, begun}
 use Rattle.wgsl_module.specs.declared.walk.Order.{Order}
 use Rattle.wgsl_module.specs.declared.typing.fault.Place.{Place}
 use Rattle.wgsl_module.specs.declared.walk.State.{State}
 use Rattle.wgsl_module.specs.declared.walk.State.TheVariants.{Done, Open, Unseen}
-use Rattle.wgsl_module.proofs.Order.{all_ordered, is_done, last_too, no_more, none_done, stands_there}
+use Rattle.wgsl_module.proofs.Order.{is_done, last_too, no_more, none_done, stands_there}
 use Rattle.wgsl_module.proofs.Following.{Following, back, done, led_on, led_to_new, leads_back, none_outside, opened_on, outside, set_same, top_done, top_gone}
 
 abbrev pub cycles_of : Order → List ℕ
@@ -210,10 +210,6 @@ all_behind from low root cycles states order stack f front index rest is other s
         absurd (omega (arith, once, none))
   ]
 ]
-
-pub all_there : (from : ℕ → ℕ → List ℕ) (low to root : ℕ) (cycles : List ℕ) (states : List State) (order : List ℕ) (stack : List (ℕ × ℕ)) → to ≤ root → to ≤ length states
-    → Following from low root states order cycles stack → HasEach low to order
-all_there from low to root cycles states order stack end inside f = all_ordered low to root states order end inside f.ordered f.done
 
 -- The work that is left
 

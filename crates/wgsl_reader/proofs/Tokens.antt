@@ -61,9 +61,3 @@ module _ (text : List ℕ) (tokens : List Token) (at : ℕ) (lt : at < length te
       → tokens_of text ≡ with_tokens more (tokens_from 0 next (drop next text))
   token_passed kind len next is there more e =
       rw (there, e) (whole (p.Token kind len) is ∙ with_one_more tokens (record { kind = kind; at = at; len = len }) (behind at text len))
-
-  pub strange_found : p.Strange ≡ piece_of (drop at text) → Err at ≡ tokens_of text
-  strange_found is = sym (whole p.Strange is)
-
-  pub open_found : p.OpenComment ≡ piece_of (drop at text) → Err at ≡ tokens_of text
-  open_found is = sym (whole p.OpenComment is)

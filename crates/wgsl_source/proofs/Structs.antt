@@ -107,10 +107,6 @@ keeps_one d a b s g is one scope from = record {
       };
     }
 
--- all structs are read
-pub all_kept : (Known : Knows) (a b : Reader) → a.structs.items ≡ [] → Keeps Known a b → AreStructsOf b.types.elements.items b.structs.items
-all_kept Known a b none h = subst (λ (ss : List Struct). AreStructsOf b.types.elements.items ss) (sym (h.kept ∙ ap (λ ss. ss ++ h.added) none)) h.laid_out
-
 pub all_declared : (Known : Knows) (a b : Reader) → a.structs.items ≡ [] → Keeps Known a b → (whole : List Event) → Known a.scope.text whole
     → All (IsDeclared a.scope.text (environment b.scope b.types) whole) b.structs.items
 all_declared Known a b none h whole known =

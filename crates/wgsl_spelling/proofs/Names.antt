@@ -1,9 +1,7 @@
 -- A value that is found by its name is that of the table.
-use Rattle.std.proofs.Common.{◌≡◌, ◌⊎◌, inl, inr, ℕ, List, MatchOption, Option, Some, None, Result, Ok, Err, refl, sym, ap, ◌∙◌}
-use Rattle.std.specs.Bool.{⊤}
-use Rattle.std.specs.Result.{result_ok}
-use Rattle.wgsl_spelling.proofs.Common.{IsSpace, access_modes, access_text, space_text, space_text_by, spaces, flag_text, flags, IsTexel, texel_formats, texel_text, texel_text_by, sampled_text, sampled_types, AccessMode, AddressSpace, Standard, TexelFormat, access_named, format_named, or_else, space_named}
-use Rattle.wgsl_syntax.specs.Names.{Reads, named, table}
+use Rattle.std.proofs.Common.{◌≡◌, ◌⊎◌, inl, inr, ℕ, List, MatchOption, Option, Some, None, refl, sym, ap, ◌∙◌}
+use Rattle.wgsl_spelling.proofs.Common.{IsSpace, access_modes, access_text, space_text, space_text_by, spaces, flag_text, flags, IsTexel, texel_formats, texel_text, texel_text_by, sampled_text, sampled_types, AddressSpace, Standard, TexelFormat, format_named, or_else, space_named}
+use Rattle.wgsl_syntax.specs.Names.{named, table}
 use Rattle.wgsl_syntax.specs.declared.address.AccessMode.TheVariants as access
 use Rattle.wgsl_syntax.specs.declared.address.AddressSpace.TheVariants as space
 use Rattle.wgsl_syntax.specs.declared.attribute.AccelerationStructureFlags.TheVariants as flag
@@ -19,11 +17,6 @@ is_none : {A : Type 0} (o : Option A) → ((x : A) → o ≡ Some x → ⊥) →
 is_none (Some x) lacks = absurd (lacks x refl)
 is_none None lacks = refl
 
-read_named : {A : Type 0} (text : A → List ℕ) (values : List A) → Back text values → (s : List ℕ) (r : Result A ⊤) → Reads text s r → result_ok r ≡ named (table text values) s
-read_named text values back s (Ok x) reads = sym (ap (named (table text values)) ((reads x).0 refl) ∙ back x)
-read_named text values back s (Err e) reads =
-    is_none (named (table text values) s) (λ x is. let no : Err e ≡ Ok x = (reads x).1 (named_text text values s x is) in cc no)
-
 pub access_back : Back access_text access_modes
 access_back access.Read = refl
 access_back _ = refl
@@ -34,9 +27,6 @@ sampled_back _ = refl
 
 pub flag_back : Back flag_text flags
 flag_back flag.VertexReturn = refl
-
-pub access_is : (s : List ℕ) (r : Result AccessMode ⊤) → Reads access_text s r → result_ok r ≡ access_named s
-access_is = read_named access_text access_modes access_back
 
 -- by one name or by the other
 abbrev either : {A : Type 0} → (A → List ℕ) → (A → List ℕ) → List A → List ℕ → Option A

@@ -7,14 +7,14 @@ ghost use Rattle.wgsl_spelling.specs.Templates.{bitcast, bitcast_named, flag, is
 use crate::chain::Leaf;
 use crate::fault::{Cause, Expected, Stop, stop_at};
 use crate::item::{Item, Value};
-use crate::name::{access_named, format_named, space_named};
+use crate::name::{format_named, space_named};
 use crate::predeclared::{LayerName, PredeclaredType, predeclared};
 use crate::value::count;
 use crate::word::word;
 use wgsl_constants::call::Function;
 use wgsl_reader::kind::Kind;
 use wgsl_reader::token::Token;
-use wgsl_syntax::address::{AccessMode, AddressSpace};
+use wgsl_syntax::address::{AccessMode, AddressSpace, access_named};
 use wgsl_syntax::around::Around;
 use wgsl_syntax::attribute::{AccelerationStructureFlags, flag_named};
 use wgsl_syntax::texel::TexelFormat;

@@ -1,9 +1,8 @@
 // Values of enumerations by their names.
 ghost use Rattle.std.specs.Prelude.{◌≡◌};
-ghost use Rattle.wgsl_spelling.specs.Names.{access_named, format_named, space_named};
+ghost use Rattle.wgsl_spelling.specs.Names.{format_named, space_named};
 
-use std::str::FromStr;
-use wgsl_syntax::address::{AccessMode, AddressSpace};
+use wgsl_syntax::address::AddressSpace;
 use wgsl_syntax::rules::RuleSet;
 use wgsl_syntax::texel::TexelFormat;
 
@@ -13,14 +12,6 @@ pub fn space_named(name: &str) -> Option<AddressSpace>
     ensures { result ≡ space_named name.now }
 {
     AddressSpace::named_by(RuleSet::Standard, name)
-}
-
-/// `read_write`
-#[tactic(auto, using(crate::proofs::Names::access_is))]
-pub fn access_named(name: &str) -> Option<AccessMode>
-    ensures { result ≡ access_named name.now }
-{
-    AccessMode::from_str(name).ok()
 }
 
 /// `rgba8unorm`

@@ -8,9 +8,6 @@ use Rattle.wgsl_rules.specs.types.Types.{WgslType}
 use Rattle.wgsl_rules.specs.conversion.Converted.{all_to}
 
 module _ {T V : Type 0} (to : T → WgslType → Option V) (t : WgslType) where
-  put : V → Option (List V) → Option (List V)
-  put y r = option_map (λ ys. y ∷ ys) r
-
   cons_is : (o : Option V) (r : Option (List V)) (ys : List V) → option_and_then (λ y. option_map (λ zs. y ∷ zs) r) o ≡ Some ys → (y : V) × (zs : List V) × (o ≡ Some y) × (r ≡ Some zs) × (y ∷ zs ≡ ys)
   cons_is None r ys h = absurd (cc h)
   cons_is (Some y) None ys h = absurd (cc h)

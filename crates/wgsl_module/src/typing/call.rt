@@ -252,7 +252,7 @@ impl<'t> Expressions<'t> {
         ensures stack { stack self.new ≡ stack self.old }
     {
         let known = self.take_known(index);
-        let outcome = self.call_known(count, index, &known, call);
+        let outcome = self.call_known(count, &known, call);
         self.put_known(index, known);
         outcome
     }
@@ -260,7 +260,6 @@ impl<'t> Expressions<'t> {
     fn call_known(
         &mut self,
         count: usize,
-        index: usize,
         known: &Option<Known>,
         call: &Call<'_>,
     ) -> Result<Outcome, AllocError>
@@ -269,7 +268,7 @@ impl<'t> Expressions<'t> {
     {
         match known {
             Some(Known::Type(ty)) => self.construct(ty, call),
-            Some(Known::Function(signature)) => self.call_function(count, index, signature, call),
+            Some(Known::Function(signature)) => self.call_function(count, signature, call),
             Some(Known::Value(_)) => self.faulty(Rule::Name, count, "can't be called"),
             Some(Known::Faulty) | None => Ok(Outcome::Faulty),
         }
@@ -278,7 +277,6 @@ impl<'t> Expressions<'t> {
     fn call_function(
         &mut self,
         count: usize,
-        index: usize,
         signature: &Signature,
         call: &Call<'_>,
     ) -> Result<Outcome, AllocError>
@@ -300,9 +298,6 @@ impl<'t> Expressions<'t> {
                 count,
                 "is an entry point, and can't be called",
             );
-        }
-        if let Some(doing) = &mut self.doing {
-            doing.calls.push((index, call.head))?;
         }
         match &signature.result {
             Some(ty) => Ok(typed(ty.clone(self.alloc)?, Stage::Runtime)),

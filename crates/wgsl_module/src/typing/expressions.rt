@@ -29,8 +29,6 @@ use wgsl_syntax::overload::Stages;
 /// What a function does that depends on the stage in which it runs.
 #[derive(Drop)]
 pub struct Doings {
-    /// The functions that it calls, by the index of the declaration, and where.
-    pub calls: Vec<(usize, Place)>,
     /// The variables and overrides of the module that it names, and where.
     pub variables: Vec<(usize, Place)>,
     /// What only some stages do, and where.
@@ -41,7 +39,6 @@ impl Doings {
     /// It does nothing of the kind.
     pub fn none(alloc: Global) -> Doings {
         Doings {
-            calls: Vec::new(alloc),
             variables: Vec::new(alloc),
             staged: Vec::new(alloc),
         }

@@ -16,8 +16,8 @@ use crate::typing::name::Meaning;
 use std::alloc::AllocError;
 use wgsl_core::ty::Type;
 use wgsl_spelling::meant::{ACCESS_MODES, SPACES};
-use wgsl_spelling::name::{access_named, space_named};
-use wgsl_syntax::address::{AccessMode, AddressSpace};
+use wgsl_spelling::name::space_named;
+use wgsl_syntax::address::{AccessMode, AddressSpace, access_named};
 
 impl<'t> Expressions<'t> {
     /// The operand that an item is.
