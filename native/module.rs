@@ -6,9 +6,9 @@ mod uses;
 
 use crate::proved::wgsl_core::ty::show::ShownType;
 use crate::proved::wgsl_module::module::{check as checked, Checked as Found};
-use crate::proved::wgsl_module::typing::count::with_counts;
-use crate::proved::wgsl_module::typing::fault::Place;
-use crate::proved::wgsl_module::typing::known::{Known, Outcome, Typed};
+use crate::proved::wgsl_typing::count::with_counts;
+use crate::proved::wgsl_typing::fault::Place;
+use crate::proved::wgsl_typing::known::{Known, Outcome, Typed};
 use crate::proved::wgsl_reader::token::Token;
 use crate::proved::wgsl_report::faults::explained;
 use crate::proved::wgsl_report::message::{write_misread, EXPLAINED};
@@ -21,7 +21,7 @@ use alloc::string::{String, ToString};
 use alloc::vec::Vec;
 use core::ops::Range;
 
-pub use crate::proved::wgsl_module::typing::{fault::Rule, stage::Stage};
+pub use crate::proved::wgsl_typing::{fault::Rule, stage::Stage};
 use names::names_of;
 pub use names::{Meaning, Name};
 pub use signature::Signature;

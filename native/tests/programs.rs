@@ -104,7 +104,7 @@ fn code_of(span: &str) -> &str {
 /// Each row of `docs/FAULTS.md` is what is printed, and each rule has one, with its comment.
 #[test]
 fn the_list_of_faults_is_right() {
-    let [list, rules] = ["docs/FAULTS.md", "crates/wgsl_module/src/typing/fault.rt"]
+    let [list, rules] = ["docs/FAULTS.md", "crates/wgsl_typing/src/fault.rt"]
         .map(|path| fs::read_to_string(path).unwrap());
     let mut codes: Vec<String> = Vec::new();
     for row in list.lines().filter(|line| line.starts_with("| `")) {

@@ -3,9 +3,9 @@ use Rattle.std.proofs.Common.{◌≡◌, ℕ, List, [], ◌∷◌, ◌++◌, Boo
 use Rattle.wgsl_module.specs.Checked.{IsRead, told_of_reading}
 use Rattle.wgsl_module.specs.Control.{AreAllowed, State, behind, behind_all, is_allowed, outside, told_by, told_if, told_of}
 use Rattle.wgsl_module.specs.Told.{AreTold, Broken, broken, unread}
-use Rattle.wgsl_module.specs.declared.typing.fault.Fault.{Fault}
-use Rattle.wgsl_module.specs.declared.typing.fault.Place.{Place}
-use Rattle.wgsl_module.specs.declared.typing.fault.Rule.{Rule}
+use Rattle.wgsl_typing.specs.declared.fault.Fault.{Fault}
+use Rattle.wgsl_typing.specs.declared.fault.Place.{Place}
+use Rattle.wgsl_typing.specs.declared.fault.Rule.{Rule}
 use Rattle.wgsl_module.proofs.Kept.{nothing}
 use Rattle.wgsl_reader.specs.Modules.{ReadsModule}
 use Rattle.wgsl_reader.specs.Reading.{kind_of}
@@ -14,7 +14,7 @@ use Rattle.wgsl_reader.specs.declared.mark.Mark.TheVariants as m
 use Rattle.wgsl_reader.specs.declared.module.Misread.{Misread}
 use Rattle.wgsl_reader.specs.declared.read.Event.{Event}
 use Rattle.wgsl_reader.specs.declared.token.Token.{Token}
-use Rattle.wgsl_module.specs.typing.Words.{kind_at}
+use Rattle.wgsl_typing.specs.Words.{kind_at}
 
 -- One event
 

@@ -4,11 +4,11 @@ use Rattle.std.proofs.lemmas.Option.{slice_get-map}
 use Rattle.wgsl_module.specs.Declarations.{Written, written}
 use Rattle.wgsl_module.specs.Named.{Naming, first_called, named_by, named_from, naming}
 use Rattle.wgsl_module.specs.States.{state}
-use Rattle.wgsl_module.specs.typing.Names.{Context}
+use Rattle.wgsl_typing.specs.Names.{Context}
 use Rattle.wgsl_module.specs.Order.{HaveNames, IsBehind, LeadsTo, itself, leads_of, through}
 use Rattle.wgsl_module.specs.declared.checker.Checker.{Checker}
 use Rattle.wgsl_module.specs.declared.walk.Link.TheVariants as links
-use Rattle.wgsl_module.specs.typing.StructNames.{index_of}
+use Rattle.wgsl_typing.specs.StructNames.{index_of}
 use Rattle.wgsl_module.proofs.Named.{Finds, called_after, called_before, called_inside, named_each, named_too, same_named}
 use Rattle.wgsl_reader.specs.declared.token.Token.{Token}
 

@@ -9,8 +9,8 @@ use Rattle.wgsl_module.specs.Named.{Naming, first_called, naming}
 use Rattle.wgsl_module.specs.Order.{HaveNames, leads_of}
 use Rattle.wgsl_module.specs.declared.checker.Checker.{Checker}
 use Rattle.wgsl_module.specs.declared.walk.Link.TheVariants as links
-use Rattle.wgsl_module.specs.typing.StructNames.{index_of}
-use Rattle.wgsl_module.specs.typing.Words.{word_at}
+use Rattle.wgsl_typing.specs.StructNames.{index_of}
+use Rattle.wgsl_typing.specs.Words.{word_at}
 use Rattle.wgsl_reader.specs.declared.mark.Mark.{Mark}
 use Rattle.wgsl_reader.specs.declared.mark.Mark.TheVariants as m
 use Rattle.wgsl_reader.specs.declared.read.Event.{Event}

@@ -2,8 +2,8 @@
 use Rattle.std.proofs.Common.{◌≡◌, List, [], ◌∷◌, Bool, true, false, Option, Some, None, cond, refl}
 use Rattle.std.proofs.lemmas.List.Elements.{All-cons, All-nil}
 use Rattle.wgsl_module.specs.Checked.{AreTyped, first_faulty, is_faulty}
-use Rattle.wgsl_module.specs.declared.typing.fault.Place.{Place}
-use Rattle.wgsl_module.specs.declared.typing.known.Part.{Part}
+use Rattle.wgsl_typing.specs.declared.fault.Place.{Place}
+use Rattle.wgsl_typing.specs.declared.known.Part.{Part}
 
 not_first : (b : Bool) (place : Place) (rest : Option Place) → cond b (Some place) rest ≡ None → (b ≡ false) × (rest ≡ None)
 not_first false place rest none = (refl, none)

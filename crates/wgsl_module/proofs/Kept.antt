@@ -7,7 +7,7 @@ use Rattle.std.proofs.lemmas.Result.{IfOk-weaker}
 use Rattle.std.specs.declared.alloc.AllocError.{AllocError}
 use Rattle.std.specs.List.Sorted.{IsPermutation}
 use Rattle.wgsl_module.specs.Told.{AreTold, Broken, broken}
-use Rattle.wgsl_module.specs.declared.typing.fault.Fault.{Fault}
+use Rattle.wgsl_typing.specs.declared.fault.Fault.{Fault}
 
 -- the last one, and those in front of it
 pub last_told : (xs ys : List Fault) (x : Fault) → xs ≡ ys ++ x ∷ [] → Contains (map broken xs) (broken x)

@@ -11,10 +11,10 @@ use Rattle.wgsl_module.specs.States.{KeepsButNames, source, state}
 use Rattle.wgsl_module.specs.Order.{HaveNames, IsNamed, name_at, unless_called}
 use Rattle.wgsl_module.specs.declared.checker.Checker.{Checker}
 use Rattle.wgsl_module.specs.declared.declaration.Declaration.{Declaration}
-use Rattle.wgsl_module.specs.typing.StructNames.{index_of}
-use Rattle.wgsl_module.specs.typing.Words.{kind_of_any, word_at}
-use Rattle.wgsl_module.proofs.Common.{Bor, Gives, btree_map_updates_str}
-use Rattle.wgsl_module.proofs.Indices.{Index}
+use Rattle.wgsl_typing.specs.StructNames.{index_of}
+use Rattle.wgsl_typing.specs.Words.{kind_of_any, word_at}
+use Rattle.wgsl_typing.proofs.Common.{Bor, Gives, btree_map_updates_str}
+use Rattle.wgsl_typing.proofs.Indices.{Index}
 use Rattle.wgsl_module.proofs.Order.{in_front}
 use Rattle.wgsl_reader.specs.declared.mark.Mark.{Mark}
 use Rattle.wgsl_reader.specs.declared.mark.Mark.TheVariants as m

@@ -6,12 +6,12 @@ use Rattle.wgsl_module.specs.States.{KeepsButNames, State, with_names}
 use Rattle.wgsl_module.specs.Declarations.{Written, written}
 use Rattle.wgsl_module.specs.Runs.{AreBodies, AreDeclarations, AreParameters, IsBodyOf, IsDeclaration, IsParameterIf, is_parameter}
 use Rattle.wgsl_module.specs.declared.declaration.Declaration.{Declaration}
-use Rattle.wgsl_module.specs.declared.typing.expressions.Named.{Named}
-use Rattle.wgsl_module.specs.typing.Names.{known_of, with_known}
+use Rattle.wgsl_typing.specs.declared.expressions.Named.{Named}
+use Rattle.wgsl_typing.specs.Names.{known_of, with_known}
 use Rattle.wgsl_reader.specs.declared.kind.Kind.{Kind}
 use Rattle.wgsl_reader.specs.declared.read.Event.{Event}
 use Rattle.wgsl_reader.specs.declared.token.Token.{Token}
-use Rattle.wgsl_module.specs.typing.Words.{kind_at}
+use Rattle.wgsl_typing.specs.Words.{kind_at}
 
 body_and_rest : (tokens : List Token) (ws : List Written) (index : ℕ) (s m r : State) → IsBodyOf tokens (slice_get ws index) s m
     → AreBodies tokens (drop (suc index) ws) m r → AreBodies tokens (drop index ws) s r

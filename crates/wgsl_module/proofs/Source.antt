@@ -1,16 +1,16 @@
 -- No step of an expression changes the text, its tokens or what is declared.
 use Rattle.std.proofs.Common.{◌≡◌, ℕ, List, [], ◌∷◌, Bool, true, false, ap}
-use Rattle.wgsl_module.specs.declared.typing.known.Part.{Part}
+use Rattle.wgsl_typing.specs.declared.known.Part.{Part}
 use Rattle.wgsl_reader.specs.declared.kind.Kind.{Kind}
 use Rattle.wgsl_reader.specs.declared.mark.Mark.{Mark}
 use Rattle.wgsl_reader.specs.declared.mark.Mark.TheVariants as m
-use Rattle.wgsl_module.specs.typing.Calls.{ArgumentIf, CallsOf, IsGiven, is_in_call}
-use Rattle.wgsl_module.specs.typing.Operators.{AnOperator, is_short_circuit}
-use Rattle.wgsl_module.specs.typing.Stacks.{Stack, below_operand}
-use Rattle.wgsl_module.specs.typing.Steps.{StepIf, is_of_expressions, is_round}
-use Rattle.wgsl_module.specs.typing.Words.{kind_at}
-use Rattle.wgsl_module.specs.declared.typing.item.Item.{Item}
-use Rattle.wgsl_module.specs.declared.typing.item.Item.TheVariants as items
+use Rattle.wgsl_typing.specs.Calls.{ArgumentIf, CallsOf, IsGiven, is_in_call}
+use Rattle.wgsl_typing.specs.Operators.{AnOperator, is_short_circuit}
+use Rattle.wgsl_typing.specs.Stacks.{Stack, below_operand}
+use Rattle.wgsl_typing.specs.Steps.{StepIf, is_of_expressions, is_round}
+use Rattle.wgsl_typing.specs.Words.{kind_at}
+use Rattle.wgsl_typing.specs.declared.item.Item.{Item}
+use Rattle.wgsl_typing.specs.declared.item.Item.TheVariants as items
 
 by_operator : (b : Bool) (at : ℕ) (s r : Stack) → AnOperator b at s r → r.context ≡ s.context
 by_operator true at s r step = ap (λ t. t.context) step.2

@@ -6,14 +6,14 @@ use Rattle.wgsl_standard.specs.forms.Refusals.{Refusal}
 use Rattle.wgsl_standard.specs.forms.Variable.{initialized_variable}
 use Rattle.wgsl_syntax.specs.declared.address.AccessMode.{AccessMode}
 use Rattle.wgsl_syntax.specs.declared.address.AddressSpace.{AddressSpace}
-use Rattle.wgsl_module.specs.typing.Declarations.{IsHeldFor, IsVariable, initializing, type_behind, value_of_variable}
-use Rattle.wgsl_module.specs.declared.typing.declared.Declared.{Declared}
-use Rattle.wgsl_module.specs.declared.typing.declared.Declared.TheVariants as types
-use Rattle.wgsl_module.specs.declared.typing.known.Outcome.{Outcome}
-use Rattle.wgsl_module.specs.declared.typing.known.Part.{Part}
-use Rattle.wgsl_module.specs.declared.typing.known.Typed.{Typed}
-use Rattle.wgsl_module.specs.declared.typing.stage.Stage.{Stage}
-use Rattle.wgsl_module.specs.declared.typing.stage.Stage.TheVariants as stages
+use Rattle.wgsl_typing.specs.Declarations.{IsHeldFor, IsVariable, initializing, type_behind, value_of_variable}
+use Rattle.wgsl_typing.specs.declared.declared.Declared.{Declared}
+use Rattle.wgsl_typing.specs.declared.declared.Declared.TheVariants as types
+use Rattle.wgsl_typing.specs.declared.known.Outcome.{Outcome}
+use Rattle.wgsl_typing.specs.declared.known.Part.{Part}
+use Rattle.wgsl_typing.specs.declared.known.Typed.{Typed}
+use Rattle.wgsl_typing.specs.declared.stage.Stage.{Stage}
+use Rattle.wgsl_typing.specs.declared.stage.Stage.TheVariants as stages
 
 none_for : (answer : Typed → Result WgslType Refusal) (stage : Stage) (value : Option Typed) → IsHeldFor answer stage value None
 none_for answer stage None = refl

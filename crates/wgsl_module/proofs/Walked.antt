@@ -5,7 +5,7 @@ use Rattle.std.proofs.lemmas.List.Elements.{Contains-append_left, Contains-push}
 use Rattle.std.proofs.lemmas.List.Sums.{sum_by_push}
 use Rattle.wgsl_module.specs.Order.{Begins, GoesOn, IsBehind, IsClosed, LeadsOn, begun}
 use Rattle.wgsl_module.specs.declared.walk.Order.{Order}
-use Rattle.wgsl_module.specs.declared.typing.fault.Place.{Place}
+use Rattle.wgsl_typing.specs.declared.fault.Place.{Place}
 use Rattle.wgsl_module.specs.declared.walk.State.{State}
 use Rattle.wgsl_module.specs.declared.walk.State.TheVariants.{Done, Open, Unseen}
 use Rattle.wgsl_module.proofs.Order.{is_done, last_too, no_more, none_done, stands_there}

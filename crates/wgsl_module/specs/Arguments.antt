@@ -2,13 +2,13 @@
 use Rattle.std.specs.Prelude.{◌≡◌, ℕ, List, [], ◌∷◌, ◌++◌, Bool, true, false, Option, Some, None}
 use Rattle.wgsl_source.specs.declared.attribute.Name.{Name}
 use Rattle.wgsl_source.specs.declared.attribute.Name.TheVariants as name
-use Rattle.wgsl_module.specs.declared.typing.known.Part.{Part}
+use Rattle.wgsl_typing.specs.declared.known.Part.{Part}
 use Rattle.wgsl_reader.specs.declared.kind.Kind.{Kind}
 use Rattle.wgsl_reader.specs.declared.kind.Kind.TheVariants.{Const}
-use Rattle.wgsl_module.specs.typing.Names.{Context}
-use Rattle.wgsl_module.specs.typing.Stacks.{IsOperand}
-use Rattle.wgsl_module.specs.declared.typing.item.Item.{Item}
-use Rattle.wgsl_module.specs.declared.typing.item.Item.TheVariants as items
+use Rattle.wgsl_typing.specs.Names.{Context}
+use Rattle.wgsl_typing.specs.Stacks.{IsOperand}
+use Rattle.wgsl_typing.specs.declared.item.Item.{Item}
+use Rattle.wgsl_typing.specs.declared.item.Item.TheVariants as items
 
 -- Names in the brackets of these, and of what is no attribute, are no expressions: `@builtin(position)`, `@stage(vertex)`
 abbrev pub takes_names : Option Name → Bool

@@ -2,12 +2,12 @@
 use Rattle.std.specs.Prelude.{◌≡◌, ℕ, ◌+◌, List, [], ◌∷◌, ◌++◌, Bool, true, false, Option, Some, None, drop, length, reverse, slice_get, take, unwrap_or, vec_len}
 use Rattle.wgsl_module.specs.States.{Keeps, State}
 use Rattle.wgsl_module.specs.declared.block.Loop.{Loop}
-use Rattle.wgsl_module.specs.declared.typing.known.Typed.{Typed}
-use Rattle.wgsl_module.specs.declared.typing.scope.Bound.{Bound}
-use Rattle.wgsl_module.specs.declared.typing.scope.Local.{Local}
-use Rattle.wgsl_module.specs.declared.typing.scope.Locals.{Locals}
-use Rattle.wgsl_module.specs.typing.Names.{word_in}
-use Rattle.wgsl_module.specs.typing.Scopes.{closed, is_here, opened, scope_view, with_name}
+use Rattle.wgsl_typing.specs.declared.known.Typed.{Typed}
+use Rattle.wgsl_typing.specs.declared.scope.Bound.{Bound}
+use Rattle.wgsl_typing.specs.declared.scope.Local.{Local}
+use Rattle.wgsl_typing.specs.declared.scope.Locals.{Locals}
+use Rattle.wgsl_typing.specs.Names.{word_in}
+use Rattle.wgsl_typing.specs.Scopes.{closed, is_here, opened, scope_view, with_name}
 use Rattle.wgsl_reader.specs.declared.kind.Kind.{Kind}
 use Rattle.wgsl_reader.specs.declared.kind.Kind.TheVariants as kinds
 use Rattle.wgsl_reader.specs.declared.mark.Mark.{Mark}

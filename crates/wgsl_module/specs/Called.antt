@@ -3,8 +3,8 @@ use Rattle.std.specs.Prelude.{ℕ, List, [], ◌∷◌, Bool, false, Option, Som
 use Rattle.std.specs.List.{cons_option}
 use Rattle.wgsl_module.specs.Declarations.{Written}
 use Rattle.wgsl_module.specs.Named.{Naming, naming}
-use Rattle.wgsl_module.specs.typing.Steps.{is_round}
-use Rattle.wgsl_module.specs.typing.Words.{kind_at, word_at}
+use Rattle.wgsl_typing.specs.Steps.{is_round}
+use Rattle.wgsl_typing.specs.Words.{kind_at, word_at}
 use Rattle.wgsl_reader.specs.declared.kind.Kind.{Kind}
 use Rattle.wgsl_reader.specs.declared.mark.Mark.{Mark}
 use Rattle.wgsl_reader.specs.declared.mark.Mark.TheVariants as m

@@ -3,14 +3,14 @@
 use Rattle.std.specs.Prelude.{◌≡◌, List, [], ◌∷◌, ◌++◌, All, Bool, true, false, Option, Some, None, cond, map}
 use Rattle.wgsl_module.specs.Control.{AreAllowed, told_of}
 use Rattle.wgsl_module.specs.Told.{AreTold, Broken, unread}
-use Rattle.wgsl_module.specs.declared.typing.fault.Fault.{Fault}
-use Rattle.wgsl_module.specs.declared.typing.fault.Place.{Place}
-use Rattle.wgsl_module.specs.declared.typing.fault.Rule.TheVariants as rules
-use Rattle.wgsl_module.specs.declared.typing.known.Known.{Known}
-use Rattle.wgsl_module.specs.declared.typing.known.Known.TheVariants as knowns
-use Rattle.wgsl_module.specs.declared.typing.known.Outcome.{Outcome}
-use Rattle.wgsl_module.specs.declared.typing.known.Outcome.TheVariants.{Faulty}
-use Rattle.wgsl_module.specs.declared.typing.known.Part.{Part}
+use Rattle.wgsl_typing.specs.declared.fault.Fault.{Fault}
+use Rattle.wgsl_typing.specs.declared.fault.Place.{Place}
+use Rattle.wgsl_typing.specs.declared.fault.Rule.TheVariants as rules
+use Rattle.wgsl_typing.specs.declared.known.Known.{Known}
+use Rattle.wgsl_typing.specs.declared.known.Known.TheVariants as knowns
+use Rattle.wgsl_typing.specs.declared.known.Outcome.{Outcome}
+use Rattle.wgsl_typing.specs.declared.known.Outcome.TheVariants.{Faulty}
+use Rattle.wgsl_typing.specs.declared.known.Part.{Part}
 use Rattle.wgsl_reader.specs.Modules.{ReadsModule}
 use Rattle.wgsl_reader.specs.Reading.{kind_of}
 use Rattle.wgsl_reader.specs.declared.module.Misread.{Misread}

@@ -8,16 +8,16 @@ use Rattle.wgsl_module.specs.declared.control.Control.{Control}
 use Rattle.wgsl_module.specs.declared.frame.Around.{Around}
 use Rattle.wgsl_module.specs.declared.frame.Frame.{Frame}
 use Rattle.wgsl_module.specs.declared.frame.Frame.TheVariants.{Returned}
-use Rattle.wgsl_module.specs.typing.Faults.{last_of}
-use Rattle.wgsl_module.specs.declared.typing.fault.Place.{Place}
-use Rattle.wgsl_module.specs.declared.typing.fault.Rule.{Rule}
-use Rattle.wgsl_module.specs.declared.typing.fault.Rule.TheVariants as rules
+use Rattle.wgsl_typing.specs.Faults.{last_of}
+use Rattle.wgsl_typing.specs.declared.fault.Place.{Place}
+use Rattle.wgsl_typing.specs.declared.fault.Rule.{Rule}
+use Rattle.wgsl_typing.specs.declared.fault.Rule.TheVariants as rules
 use Rattle.wgsl_reader.specs.declared.kind.Kind.{Kind}
 use Rattle.wgsl_reader.specs.declared.mark.Mark.{Mark}
 use Rattle.wgsl_reader.specs.declared.mark.Mark.TheVariants as m
 use Rattle.wgsl_reader.specs.declared.read.Event.{Event}
 use Rattle.wgsl_reader.specs.declared.token.Token.{Token}
-use Rattle.wgsl_module.specs.typing.Words.{kind_at}
+use Rattle.wgsl_typing.specs.Words.{kind_at}
 
 -- one more where something is wrong
 abbrev pub told_if : Bool → Rule → Place → List Broken → List Broken

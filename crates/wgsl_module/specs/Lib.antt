@@ -14,4 +14,3 @@ pub mod Runs
 pub mod States
 pub mod Statements
 pub mod Told
-pub mod typing

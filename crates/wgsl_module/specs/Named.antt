@@ -3,8 +3,8 @@ use Rattle.std.specs.Prelude.{ℕ, suc, List, [], ◌∷◌, Bool, true, false, 
 use Rattle.std.specs.List.{cons_option}
 use Rattle.wgsl_module.specs.Arguments.{takes_names}
 use Rattle.wgsl_module.specs.Declarations.{Written}
-use Rattle.wgsl_module.specs.typing.Names.{Context}
-use Rattle.wgsl_module.specs.typing.Words.{kind_of_any, word_at}
+use Rattle.wgsl_typing.specs.Names.{Context}
+use Rattle.wgsl_typing.specs.Words.{kind_of_any, word_at}
 use Rattle.wgsl_reader.specs.declared.kind.Kind.{Kind}
 use Rattle.wgsl_reader.specs.declared.kind.Kind.TheVariants.{Colon}
 use Rattle.wgsl_reader.specs.declared.mark.Mark.{Mark}

@@ -6,8 +6,8 @@ use Rattle.wgsl_module.specs.Blocks.{Begins, Binds, ClosesBlock, OfLoop, OpensBl
 use Rattle.wgsl_module.specs.States.{Keeps, State, leaving, noted, standing, switching}
 use Rattle.wgsl_source.specs.Attributes.{attribute_names}
 use Rattle.wgsl_source.specs.declared.attribute.Name.{Name}
-use Rattle.wgsl_module.specs.declared.typing.known.Part.{Part}
-use Rattle.wgsl_module.specs.declared.typing.known.Typed.{Typed}
+use Rattle.wgsl_typing.specs.declared.known.Part.{Part}
+use Rattle.wgsl_typing.specs.declared.known.Typed.{Typed}
 use Rattle.wgsl_reader.specs.declared.kind.Kind.{Kind}
 use Rattle.wgsl_reader.specs.declared.mark.Mark.{Mark}
 use Rattle.wgsl_reader.specs.declared.mark.Mark.TheVariants as m
@@ -17,15 +17,15 @@ use Rattle.wgsl_standard.specs.declared.forms.declare.Declaration.{Declaration}
 use Rattle.wgsl_standard.specs.declared.forms.declare.Declaration.TheVariants as forms
 use Rattle.wgsl_syntax.specs.Names.{named}
 use Rattle.wgsl_syntax.specs.declared.address.AddressSpace.TheVariants.{Function}
-use Rattle.wgsl_module.specs.typing.Declarations.{IsDeclared, IsVariable, declared_on}
-use Rattle.wgsl_module.specs.typing.Names.{word_in}
-use Rattle.wgsl_module.specs.typing.Stacks.{IsOnTop, IsOperand, Stack, below, below_declared, below_initializer, below_operand, below_space, initializer_on, name_on, with_items}
-use Rattle.wgsl_module.specs.typing.Steps.{StepIf, is_of_expressions}
-use Rattle.wgsl_module.specs.typing.Taken.{below_list, in_list}
-use Rattle.wgsl_module.specs.typing.Types.{no_type_on}
-use Rattle.wgsl_module.specs.typing.Words.{kind_at}
-use Rattle.wgsl_module.specs.declared.typing.item.Item.{Item}
-use Rattle.wgsl_module.specs.declared.typing.item.Item.TheVariants as items
+use Rattle.wgsl_typing.specs.Declarations.{IsDeclared, IsVariable, declared_on}
+use Rattle.wgsl_typing.specs.Names.{word_in}
+use Rattle.wgsl_typing.specs.Stacks.{IsOnTop, IsOperand, Stack, below, below_declared, below_initializer, below_operand, below_space, initializer_on, name_on, with_items}
+use Rattle.wgsl_typing.specs.Steps.{StepIf, is_of_expressions}
+use Rattle.wgsl_typing.specs.Taken.{below_list, in_list}
+use Rattle.wgsl_typing.specs.Types.{no_type_on}
+use Rattle.wgsl_typing.specs.Words.{kind_at}
+use Rattle.wgsl_typing.specs.declared.item.Item.{Item}
+use Rattle.wgsl_typing.specs.declared.item.Item.TheVariants as items
 
 -- Statements
 

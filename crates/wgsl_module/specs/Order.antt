@@ -6,13 +6,13 @@ use Rattle.wgsl_module.specs.Declarations.{Written, written}
 use Rattle.wgsl_module.specs.Named.{Naming, first_called, is_called, named_from}
 use Rattle.wgsl_module.specs.declared.checker.Checker.{Checker}
 use Rattle.wgsl_module.specs.declared.declaration.Declaration.{Declaration}
-use Rattle.wgsl_module.specs.declared.typing.fault.Place.{Place}
+use Rattle.wgsl_typing.specs.declared.fault.Place.{Place}
 use Rattle.wgsl_module.specs.declared.walk.Link.{Link}
 use Rattle.wgsl_module.specs.declared.walk.Link.TheVariants as links
 use Rattle.wgsl_module.specs.declared.walk.Order.{Order}
 use Rattle.wgsl_module.specs.declared.walk.State.{State}
 use Rattle.wgsl_module.specs.declared.walk.State.TheVariants.{Done, Open, Unseen}
-use Rattle.wgsl_module.specs.typing.StructNames.{index_of}
+use Rattle.wgsl_typing.specs.StructNames.{index_of}
 
 -- how many times an index stands there
 abbrev pub times_in : List ℕ → ℕ → ℕ

@@ -8,13 +8,13 @@ use Rattle.wgsl_module.specs.Order.{HasEach, IsBehind}
 use Rattle.wgsl_module.specs.States.{Keeps, KeepsButExtensions, KeepsButStructs, State, cleared, with_meaning, with_names}
 use Rattle.wgsl_module.specs.declared.declaration.DeclarationKind.{DeclarationKind}
 use Rattle.wgsl_module.specs.declared.declaration.DeclarationKind.TheVariants as kinds
-use Rattle.wgsl_module.specs.declared.typing.fault.Fault.{Fault}
-use Rattle.wgsl_module.specs.declared.typing.known.Known.{Known}
-use Rattle.wgsl_module.specs.declared.typing.known.Part.{Part}
-use Rattle.wgsl_module.specs.declared.typing.known.Typed.{Typed}
-use Rattle.wgsl_module.specs.typing.Scopes.{scope_view}
-use Rattle.wgsl_module.specs.typing.StructNames.{index_of}
-use Rattle.wgsl_module.specs.typing.Words.{kind_of_any}
+use Rattle.wgsl_typing.specs.declared.fault.Fault.{Fault}
+use Rattle.wgsl_typing.specs.declared.known.Known.{Known}
+use Rattle.wgsl_typing.specs.declared.known.Part.{Part}
+use Rattle.wgsl_typing.specs.declared.known.Typed.{Typed}
+use Rattle.wgsl_typing.specs.Scopes.{scope_view}
+use Rattle.wgsl_typing.specs.StructNames.{index_of}
+use Rattle.wgsl_typing.specs.Words.{kind_of_any}
 use Rattle.wgsl_standard.specs.declared.forms.declare.Declaration.TheVariants.{Const}
 use Rattle.wgsl_reader.specs.Modules.{ReadsModule}
 use Rattle.wgsl_reader.specs.Reading.{kind_of}

@@ -6,14 +6,14 @@ use Rattle.wgsl_module.specs.declared.block.Loop.{Loop}
 use Rattle.wgsl_module.specs.declared.checker.Checker.{Checker}
 use Rattle.wgsl_module.specs.declared.declaration.Declaration.{Declaration}
 use Rattle.wgsl_module.specs.declared.switch.Switch.{Switch}
-use Rattle.wgsl_module.specs.declared.typing.expressions.Named.{Named}
-use Rattle.wgsl_module.specs.declared.typing.extension.Extensions.{Extensions}
-use Rattle.wgsl_module.specs.declared.typing.item.Item.{Item}
-use Rattle.wgsl_module.specs.declared.typing.known.Known.{Known}
-use Rattle.wgsl_module.specs.declared.typing.known.Part.{Part}
-use Rattle.wgsl_module.specs.declared.typing.structs.Structs.{Structs}
-use Rattle.wgsl_module.specs.typing.Names.{with_known}
-use Rattle.wgsl_module.specs.typing.Stacks.{Stack, stack, with_declared, with_items, with_parts}
+use Rattle.wgsl_typing.specs.declared.expressions.Named.{Named}
+use Rattle.wgsl_typing.specs.declared.extension.Extensions.{Extensions}
+use Rattle.wgsl_typing.specs.declared.item.Item.{Item}
+use Rattle.wgsl_typing.specs.declared.known.Known.{Known}
+use Rattle.wgsl_typing.specs.declared.known.Part.{Part}
+use Rattle.wgsl_typing.specs.declared.structs.Structs.{Structs}
+use Rattle.wgsl_typing.specs.Names.{with_known}
+use Rattle.wgsl_typing.specs.Stacks.{Stack, stack, with_declared, with_items, with_parts}
 use Rattle.wgsl_reader.specs.declared.token.Token.{Token}
 
 -- The stack, which has the names in scope, and the declarations. Of the statements of a body that are open, the innermost first: the selector

@@ -1,9 +1,9 @@
 -- What is told of a text, without the messages.
 use Rattle.std.specs.Prelude.{◌+◌, ◌-◌, ◌^◌, List, Contains, map, min}
-use Rattle.wgsl_module.specs.declared.typing.fault.Fault.{Fault}
-use Rattle.wgsl_module.specs.declared.typing.fault.Place.{Place}
-use Rattle.wgsl_module.specs.declared.typing.fault.Rule.{Rule}
-use Rattle.wgsl_module.specs.declared.typing.fault.Rule.TheVariants as rules
+use Rattle.wgsl_typing.specs.declared.fault.Fault.{Fault}
+use Rattle.wgsl_typing.specs.declared.fault.Place.{Place}
+use Rattle.wgsl_typing.specs.declared.fault.Rule.{Rule}
+use Rattle.wgsl_typing.specs.declared.fault.Rule.TheVariants as rules
 use Rattle.wgsl_reader.specs.declared.module.Misread.{Misread}
 
 -- the rule that is broken, and where

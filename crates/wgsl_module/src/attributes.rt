@@ -3,19 +3,19 @@ ghost use Rattle.std.specs.Prelude.{[], ◌≡◌, IfOk, reverse};
 ghost use Rattle.wgsl_module.specs.Arguments.{AreArguments, IsArgument, is_const, takes_names, word_of};
 ghost use Rattle.wgsl_module.specs.Noted.{AttributeIf, HasArguments, OpensAttribute};
 ghost use Rattle.wgsl_module.specs.States.{Keeps, source, state};
-ghost use Rattle.wgsl_module.specs.typing.Words.{kind_at};
+ghost use Rattle.wgsl_typing.specs.Words.{kind_at};
 
 use crate::attribute::{Attribute, Attributes, Name, Owner, attribute_named};
 use crate::checker::Checker;
-use crate::typing::fault::Rule;
-use crate::typing::item::Item;
-use crate::typing::known::Part;
-use crate::typing::meant::nearest_of;
 use std::alloc::AllocError;
 use wgsl_core::ty::Type;
 use wgsl_reader::kind::Kind;
 use wgsl_source::fault::{Cause, Expected};
 use wgsl_source::meant::is_severity;
+use wgsl_typing::fault::Rule;
+use wgsl_typing::item::Item;
+use wgsl_typing::known::Part;
+use wgsl_typing::meant::nearest_of;
 
 /// The names that `@interpolate` takes: first how, then where a value is sampled.
 static INTERPOLATIONS: [&str; 2] = [

@@ -9,9 +9,6 @@ use crate::attribute::Owner;
 use crate::checker::{Checker, Interface};
 use crate::declaration::{Declaration, DeclarationKind};
 use crate::field::Field;
-use crate::typing::expressions::Doings;
-use crate::typing::known::Typed;
-use crate::typing::stage::Stage;
 use crate::walk::is_colon;
 use std::alloc::{AllocError, Global};
 use wgsl_core::ty::Type;
@@ -19,6 +16,9 @@ use wgsl_reader::mark::Mark;
 use wgsl_reader::read::Event;
 use wgsl_reader::token::Token;
 use wgsl_standard::forms::declare::{is_const_type, is_let_type};
+use wgsl_typing::expressions::Doings;
+use wgsl_typing::known::Typed;
+use wgsl_typing::stage::Stage;
 
 impl<'t> Checker<'t> {
     /// Reads the bodies of the functions.

@@ -1,22 +1,22 @@
 // The state of a check.
 ghost use Rattle.std.specs.Prelude.{◌≡◌, [], ◌∷◌};
 ghost use Rattle.wgsl_module.specs.States.{Keeps, cleared, state};
-ghost use Rattle.wgsl_module.specs.typing.Scopes.{scope_view};
-ghost use Rattle.wgsl_module.specs.typing.Words.{word_at};
+ghost use Rattle.wgsl_typing.specs.Scopes.{scope_view};
+ghost use Rattle.wgsl_typing.specs.Words.{word_at};
 
 use crate::attribute::{Attribute, Attributes, Owner};
 use crate::block::Loop;
 use crate::declaration::Declaration;
 use crate::field::Field;
 use crate::switch::Switch;
-use crate::typing::expressions::{Doings, Expressions};
-use crate::typing::fault::{Place, Rule};
 use std::alloc::{AllocError, Global};
 use std::collections::{BTreeMap, BTreeSet};
 use wgsl_core::ty::Type;
 use wgsl_reader::token::Token;
 use wgsl_source::fault::Cause;
 use wgsl_source::meant::{Declared, meant};
+use wgsl_typing::expressions::{Doings, Expressions};
+use wgsl_typing::fault::{Place, Rule};
 
 /// What is known of a declaration beside its name's meaning: a struct's members, or the parameters, the result and the attributes
 /// of a function.

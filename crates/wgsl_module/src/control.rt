@@ -4,18 +4,18 @@ ghost use Rattle.wgsl_module.specs.Control.{around_by, behind_all, has_result_by
 ghost use Rattle.wgsl_module.specs.Flow.{begun_on, below, clauses_on, ended, is_returned, statements};
 ghost use Rattle.wgsl_module.specs.Statements.{began, block_closed, continuing_ended, goes_nowhere, if_ended, in_function, inside, loop_ended, loop_on, may_fall_off, outside_of, return_ended, switch_ended, with_clause, with_default, word_of};
 ghost use Rattle.wgsl_module.specs.Told.{broken};
-ghost use Rattle.wgsl_module.specs.typing.Faults.{last_of};
+ghost use Rattle.wgsl_typing.specs.Faults.{last_of};
 
 use crate::behaviour::Behaviour;
 use crate::flow::Flow;
 use crate::frame::{Around, Frame};
-use crate::typing::expressions::kind_before;
-use crate::typing::fault::{Fault, Place, Rule};
 use std::alloc::{AllocError, Global};
 use wgsl_reader::kind::Kind;
 use wgsl_reader::mark::Mark;
 use wgsl_reader::read::Event;
 use wgsl_reader::token::Token;
+use wgsl_typing::expressions::kind_before;
+use wgsl_typing::fault::{Fault, Place, Rule};
 
 /// What is wrong in a module by where control goes on: it depends on no type.
 pub fn faults_of_control(

@@ -8,14 +8,14 @@ ghost use Rattle.wgsl_module.specs.States.{Keeps, KeepsButExtensions, KeepsButSt
 use crate::attribute::{Attributes, Owner};
 use crate::checker::{Checker, Interface};
 use crate::declaration::{Declaration, DeclarationKind};
-use crate::typing::extension::is_required;
-use crate::typing::fault::Rule;
-use crate::typing::known::{Known, Typed};
 use std::alloc::AllocError;
 use wgsl_reader::mark::Mark;
 use wgsl_reader::token::Token;
 use wgsl_source::fault::{Cause, ExtensionKind};
 use wgsl_standard::forms::declare::Declaration as Form;
+use wgsl_typing::extension::is_required;
+use wgsl_typing::fault::Rule;
+use wgsl_typing::known::{Known, Typed};
 
 impl<'t> Checker<'t> {
     /// Reads the declarations with these indices.

@@ -4,8 +4,6 @@ ghost use Rattle.wgsl_module.specs.States.{Keeps, state};
 use crate::attribute::Name;
 use crate::checker::{Checker, Interface};
 use crate::interface::ShaderStage;
-use crate::typing::fault::{Place, Rule};
-use crate::typing::known::Known;
 use crate::walk::Link;
 use std::alloc::AllocError;
 use std::collections::BTreeMap;
@@ -14,6 +12,8 @@ use wgsl_core::ty::form::Form;
 use wgsl_syntax::address::{AccessMode, AddressSpace};
 use wgsl_syntax::overload::Stages;
 use wgsl_syntax::texture_name::TextureParameters;
+use wgsl_typing::fault::{Place, Rule};
+use wgsl_typing::known::Known;
 
 impl<'t> Checker<'t> {
     pub fn check_entry_points(&mut self) -> Result<(), AllocError>

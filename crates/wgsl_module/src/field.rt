@@ -5,11 +5,6 @@ ghost use Rattle.wgsl_module.specs.States.{Keeps, KeepsButStructs, state};
 
 use crate::attribute::{Attributes, Name};
 use crate::checker::{Checker, Interface};
-use crate::typing::count::{has_override_count, is_element};
-use crate::typing::fault::{Place, Rule};
-use crate::typing::known::{Known, Signature};
-use crate::typing::list::DEPTH;
-use crate::typing::structs::{Declared, short, size_and_align};
 use std::alloc::AllocError;
 use std::collections::BTreeMap;
 use wgsl_core::ty::form::Form;
@@ -17,6 +12,11 @@ use wgsl_core::ty::{StructMemberType, StructType, Type};
 use wgsl_standard::forms::declare::is_const_type;
 use wgsl_standard::forms::lists::are_parameters;
 use wgsl_standard::forms::refusal::Refusal;
+use wgsl_typing::count::{has_override_count, is_element};
+use wgsl_typing::fault::{Place, Rule};
+use wgsl_typing::known::{Known, Signature};
+use wgsl_typing::list::DEPTH;
+use wgsl_typing::structs::{Declared, short, size_and_align};
 
 /// A member of a struct, a parameter or the result of a function.
 #[derive(Drop)]

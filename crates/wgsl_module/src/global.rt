@@ -5,16 +5,16 @@ ghost use Rattle.wgsl_module.specs.States.{Keeps, state};
 
 use crate::attribute::{Attributes, Name};
 use crate::checker::Checker;
-use crate::typing::count::has_override_count;
-use crate::typing::declared::Declared;
-use crate::typing::fault::{Place, Rule};
-use crate::typing::known::{Part, Typed};
-use crate::typing::stage::Stage;
-use crate::typing::structs::behind;
 use std::alloc::AllocError;
 use wgsl_standard::forms::declare::{Declaration as Form, override_without_value};
 use wgsl_standard::forms::variable::holds;
 use wgsl_syntax::address::{AccessMode, AddressSpace};
+use wgsl_typing::count::has_override_count;
+use wgsl_typing::declared::Declared;
+use wgsl_typing::fault::{Place, Rule};
+use wgsl_typing::known::{Part, Typed};
+use wgsl_typing::stage::Stage;
+use wgsl_typing::structs::behind;
 
 /// What stands between `var<` and `>`, with an access mode if that is said; None if it has a fault.
 type Space = Option<(AddressSpace, Option<AccessMode>)>;

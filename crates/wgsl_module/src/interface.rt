@@ -4,13 +4,13 @@ ghost use Rattle.wgsl_module.specs.States.{Keeps, state};
 use crate::attribute::{Attributes, Name};
 use crate::checker::Checker;
 use crate::field::Field;
-use crate::typing::extension::is_among;
-use crate::typing::fault::Rule;
 use std::alloc::AllocError;
 use std::collections::BTreeSet;
 use wgsl_core::ty::Type;
 use wgsl_core::ty::form::Form;
 use wgsl_source::fault::Cause;
+use wgsl_typing::extension::is_among;
+use wgsl_typing::fault::Rule;
 
 /// The stage of an entry point.
 #[derive(Clone, Copy, PartialEq, Eq)]

@@ -1,6 +1,6 @@
 //! The check of a WGSL module: the type of each expression, and what is wrong.
 //!
-//! The grammar's events are taken one by one (`step.rt`): expressions by `typing.rt`, statements and declarations here. What is
+//! The grammar's events are taken one by one (`step.rt`): expressions by `wgsl_typing`, statements and declarations here. What is
 //! misread or faulty is left out, and the rest is checked. Where control goes on depends on no type, and is checked alone
 //! (`control.rt`).
 #![tactic(auto)]
@@ -27,6 +27,5 @@ mod statement;
 mod step;
 mod switch;
 mod told;
-pub mod typing;
 mod untyped;
 mod walk;

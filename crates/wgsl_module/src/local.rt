@@ -3,16 +3,16 @@ ghost use Rattle.std.specs.Prelude.{◌≡◌, IfOk, None, cond, option_map};
 ghost use Rattle.wgsl_module.specs.Blocks.{Binds};
 ghost use Rattle.wgsl_module.specs.Noted.{BindsValue, BindsVariable, DeclaresValue, DeclaresVariable, IsVariableOn};
 ghost use Rattle.wgsl_module.specs.States.{Keeps, source, standing, state};
-ghost use Rattle.wgsl_module.specs.typing.Declarations.{IsVariable};
-ghost use Rattle.wgsl_module.specs.typing.Stacks.{below_declared, below_initializer, below_space, name_on};
+ghost use Rattle.wgsl_typing.specs.Declarations.{IsVariable};
+ghost use Rattle.wgsl_typing.specs.Stacks.{below_declared, below_initializer, below_space, name_on};
 
 use crate::checker::Checker;
-use crate::typing::declared::Declared;
-use crate::typing::fault::Rule;
-use crate::typing::known::{Part, Typed};
 use std::alloc::AllocError;
 use wgsl_standard::forms::declare::Declaration;
 use wgsl_syntax::address::AddressSpace;
+use wgsl_typing::declared::Declared;
+use wgsl_typing::fault::Rule;
+use wgsl_typing::known::{Part, Typed};
 
 impl<'t> Checker<'t> {
     /// Gives a value its name in the innermost block.

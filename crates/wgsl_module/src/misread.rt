@@ -7,12 +7,12 @@ ghost use Rattle.wgsl_module.specs.Told.{broken, unread};
 
 use crate::checker::Checker;
 use crate::declaration::{Declaration, DeclarationKind};
-use crate::typing::fault::{Fault, Place, Rule};
 use std::alloc::{AllocError, Global};
 use wgsl_reader::kind::Kind;
 use wgsl_reader::module::Misread;
 use wgsl_reader::token::Token;
 use wgsl_source::text::Text;
+use wgsl_typing::fault::{Fault, Place, Rule};
 
 /// A fault for each declaration that the grammar doesn't read.
 pub fn faults_of_misread(

@@ -15,10 +15,6 @@ use crate::control::faults_of_control;
 use crate::declaration::{Declaration, declarations};
 use crate::misread::faults_of_misread;
 use crate::told::{in_order, joined};
-use crate::typing::expressions::Named;
-use crate::typing::fault::{Fault, Place, Rule};
-use crate::typing::known::{Known, Part};
-use crate::typing::scope::Bound;
 use crate::untyped::{are_known, tell_untyped};
 use crate::walk::Link;
 use std::alloc::{AllocError, Global};
@@ -27,6 +23,10 @@ use wgsl_reader::kind::Kind;
 use wgsl_reader::module::{Misread, Module, read_module};
 use wgsl_reader::token::Token;
 use wgsl_source::text::{Text, tokens};
+use wgsl_typing::expressions::Named;
+use wgsl_typing::fault::{Fault, Place, Rule};
+use wgsl_typing::known::{Known, Part};
+use wgsl_typing::scope::Bound;
 
 /// What is found of a module: its expressions, and what is wrong.
 #[derive(Drop)]

@@ -4,12 +4,6 @@ ghost use Rattle.wgsl_module.specs.Noted.{AssignsIf, Uses};
 ghost use Rattle.wgsl_module.specs.States.{Keeps, noted, state};
 
 use crate::checker::Checker;
-use crate::typing::expression::shown;
-use crate::typing::fault::{Place, Rule};
-use crate::typing::known::{Outcome, Part, Typed};
-use crate::typing::stage::Stage;
-use crate::typing::structs::behind;
-use crate::typing::value::Value;
 use std::alloc::AllocError;
 use wgsl_constants::constant::Constant;
 use wgsl_reader::kind::Kind;
@@ -19,6 +13,12 @@ use wgsl_standard::forms::flow::return_value;
 use wgsl_standard::forms::refusal::Refusal;
 use wgsl_syntax::operator::{AssignmentOperator, assignment_named};
 use wgsl_syntax::overload::Stages;
+use wgsl_typing::expression::shown;
+use wgsl_typing::fault::{Place, Rule};
+use wgsl_typing::known::{Outcome, Part, Typed};
+use wgsl_typing::stage::Stage;
+use wgsl_typing::structs::behind;
+use wgsl_typing::value::Value;
 
 impl<'t> Checker<'t> {
     /// `const_assert x;`

@@ -5,13 +5,13 @@ ghost use Rattle.wgsl_module.specs.Noted.{Comes, Does, Statement};
 ghost use Rattle.wgsl_module.specs.States.{source, state};
 
 use crate::checker::Checker;
-use crate::typing::expressions::kind_before;
 use std::alloc::AllocError;
 use wgsl_reader::kind::Kind;
 use wgsl_reader::mark::Mark;
 use wgsl_reader::read::Event;
 use wgsl_reader::token::Token;
 use wgsl_standard::forms::declare::Declaration;
+use wgsl_typing::expressions::kind_before;
 
 impl<'t> Checker<'t> {
     /// Does what events say, one by one.

@@ -4,14 +4,14 @@ ghost use Rattle.wgsl_module.specs.Noted.{HasCase, Selects, Switched};
 ghost use Rattle.wgsl_module.specs.States.{Keeps, noted, state};
 
 use crate::checker::Checker;
-use crate::typing::expression::shown;
-use crate::typing::fault::{Place, Rule};
-use crate::typing::known::Part;
 use std::alloc::AllocError;
 use std::collections::BTreeSet;
 use wgsl_core::ty::Type;
 use wgsl_standard::forms::switch::switch_type;
 use wgsl_standard::operand::Operand;
+use wgsl_typing::expression::shown;
+use wgsl_typing::fault::{Place, Rule};
+use wgsl_typing::known::Part;
 
 /// A `switch` so far.
 #[derive(Drop)]

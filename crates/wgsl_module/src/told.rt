@@ -2,8 +2,8 @@
 ghost use Rattle.std.specs.Prelude.{◌≡◌, ◌++◌, Contains, IfOk, IsTrue, map};
 ghost use Rattle.wgsl_module.specs.Told.{AreTold, broken};
 
-use crate::typing::fault::{Fault, Rule};
 use std::alloc::{AllocError, Global};
+use wgsl_typing::fault::{Fault, Rule};
 
 /// The faults of both lists in the order of the text, without those that are told again, as of a struct that two entry points use.
 pub fn in_order(

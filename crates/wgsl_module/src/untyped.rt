@@ -3,9 +3,9 @@ ghost use Rattle.std.specs.Prelude.{◌≡◌, [], IfOk, map, true};
 ghost use Rattle.wgsl_module.specs.Checked.{AreTyped, are_known, first_faulty, or_untyped};
 ghost use Rattle.wgsl_module.specs.Told.{AreTold, broken};
 
-use crate::typing::fault::{Fault, Place, Rule};
-use crate::typing::known::{Known, Outcome, Part};
 use std::alloc::{AllocError, Global};
+use wgsl_typing::fault::{Fault, Place, Rule};
+use wgsl_typing::known::{Known, Outcome, Part};
 
 /// If nothing is told, and it is known what each given name stands for, tells the first expression that is faulty: one of an array
 /// whose count is a constant that isn't computed. With this, a text without faults has none, whatever the rest of the check does.

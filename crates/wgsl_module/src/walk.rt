@@ -4,18 +4,18 @@ ghost use Rattle.wgsl_module.specs.Called.{called_at, called_in, is_opening, ope
 ghost use Rattle.wgsl_module.specs.Declarations.{written};
 ghost use Rattle.wgsl_module.specs.Named.{are_words, is_colon, is_own, named_at, named_from, used};
 ghost use Rattle.wgsl_module.specs.Order.{Begins, GoesOn, HasEach, IsBehind, IsClosed, cycling, leads_from, leads_of, naming_of};
-ghost use Rattle.wgsl_module.specs.typing.Words.{kind_of_any, word_at};
+ghost use Rattle.wgsl_typing.specs.Words.{kind_of_any, word_at};
 
 use crate::attribute::attribute_named;
 use crate::attributes::takes_names;
 use crate::checker::Checker;
 use crate::declaration::Declaration;
-use crate::typing::fault::Place;
-use crate::typing::step::is_round;
 use std::alloc::AllocError;
 use wgsl_reader::kind::Kind;
 use wgsl_reader::mark::Mark;
 use wgsl_reader::read::Event;
+use wgsl_typing::fault::Place;
+use wgsl_typing::step::is_round;
 
 /// How a declaration leads to another one.
 #[derive(Clone, Copy)]

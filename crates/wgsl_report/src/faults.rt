@@ -12,10 +12,10 @@ use crate::write::Visible;
 use std::alloc::{AllocError, Global};
 use std::str::from_utf8;
 use wgsl_module::module::{Checked, check, unreadable};
-use wgsl_module::typing::fault::{Fault, Note as FaultNote, Place, Rule};
 use wgsl_reader::module::Misread;
 use wgsl_source::fault::Cause;
 use wgsl_source::text::Text;
+use wgsl_typing::fault::{Fault, Note as FaultNote, Place, Rule};
 
 /// How a report is written.
 #[derive(Clone, Copy, PartialEq, Eq)]

@@ -2,9 +2,9 @@
 
 use crate::lines::Lines;
 use std::alloc::Global;
-use wgsl_module::typing::fault::Place;
 use wgsl_reader::token::Token;
 use wgsl_source::text::Text;
+use wgsl_typing::fault::Place;
 
 /// A text with its tokens.
 #[derive(Clone, Copy)]

@@ -6,12 +6,12 @@ use crate::message::{Message, Severity, beginning};
 use crate::write::{Escaped, Fields, Visible, Written};
 use std::alloc::AllocError;
 use wgsl_core::ty::show::ShownType;
-use wgsl_module::typing::count::with_counts;
-use wgsl_module::typing::expression::shown_type;
-use wgsl_module::typing::fault::Place;
-use wgsl_module::typing::known::{Part, Typed};
-use wgsl_module::typing::stage::Stage;
 use wgsl_syntax::rules::RuleSet;
+use wgsl_typing::count::with_counts;
+use wgsl_typing::expression::shown_type;
+use wgsl_typing::fault::Place;
+use wgsl_typing::known::{Part, Typed};
+use wgsl_typing::stage::Stage;
 
 /// Writes a line per expression that has a type: its place, how it begins, and the type.
 pub fn write_types(output: &mut String, source: Source, parts: &[Part]) -> Written {

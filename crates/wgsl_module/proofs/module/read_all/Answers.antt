@@ -3,7 +3,7 @@ use Rattle.std.proofs.lemmas.Result.{IfOk-weaker}
 use Rattle.wgsl_module.specs.Declarations.{written_in}
 use Rattle.wgsl_module.specs.Recursion.{HasCallOrder}
 use Rattle.wgsl_module.specs.States.{state}
-use Rattle.wgsl_module.specs.typing.Scopes.{scope_view}
+use Rattle.wgsl_typing.specs.Scopes.{scope_view}
 use Rattle.wgsl_module.specs.Runs.{HasRuns, ReadsFrom}
 use Rattle.wgsl_module.specs.declared.module.Checked.{Checked}
 use Rattle.wgsl_module.proofs.module.read_all.Goals as goal

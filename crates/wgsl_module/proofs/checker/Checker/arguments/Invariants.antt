@@ -1,7 +1,7 @@
 use Rattle.std.proofs.Common.{◌≡◌, List, [], reverse, vec_len}
 use Rattle.wgsl_module.specs.Arguments.{AreArguments}
 use Rattle.wgsl_module.specs.States.{state}
-use Rattle.wgsl_module.specs.declared.typing.known.Part.{Part}
+use Rattle.wgsl_typing.specs.declared.known.Part.{Part}
 use Rattle.wgsl_module.proofs.checker.Checker.arguments.Given as goal
 
 -- the arguments that are left, behind those that are read, are those of all

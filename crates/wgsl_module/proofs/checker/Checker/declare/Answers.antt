@@ -2,9 +2,9 @@ use Rattle.std.proofs.Common.{◌≡◌, ◌∙◌, List, None, Some, ap, option
 use Rattle.wgsl_module.specs.Declarations.{written}
 use Rattle.wgsl_module.specs.States.{State, state}
 use Rattle.wgsl_module.specs.Runs.{DeclaresIf, IsDeclaration}
-use Rattle.wgsl_module.specs.declared.typing.expressions.Named.{Named}
-use Rattle.wgsl_module.specs.typing.Names.{known_of}
-use Rattle.wgsl_module.specs.typing.Stacks.{Stack, stack, with_declared}
+use Rattle.wgsl_typing.specs.declared.expressions.Named.{Named}
+use Rattle.wgsl_typing.specs.Names.{known_of}
+use Rattle.wgsl_typing.specs.Stacks.{Stack, stack, with_declared}
 use Rattle.wgsl_module.proofs.Runs.{same_known}
 use Rattle.wgsl_module.proofs.checker.Checker.declare.Goals as goal
 

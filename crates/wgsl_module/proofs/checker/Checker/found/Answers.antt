@@ -1,5 +1,5 @@
 use Rattle.std.proofs.Common.{◌∙◌, ◌++◌, Global, Vec, ap, sym}
-use Rattle.wgsl_module.specs.declared.typing.fault.Fault.{Fault}
+use Rattle.wgsl_typing.specs.declared.fault.Fault.{Fault}
 use Rattle.wgsl_module.proofs.Kept.{added_told, none_in_front, nothing_told}
 use Rattle.wgsl_module.proofs.checker.Checker.found.Goals as goal
 

@@ -1,5 +1,5 @@
 use Rattle.std.proofs.Common.{◌≡◌, ◌∙◌, None, bytes_eq, sym}
-use Rattle.wgsl_module.specs.typing.StructNames.{index_of}
+use Rattle.wgsl_typing.specs.StructNames.{index_of}
 use Rattle.wgsl_module.proofs.Named.{name_given, not_there, still_named}
 use Rattle.wgsl_module.proofs.checker.Checker.give.Goals as goal
 

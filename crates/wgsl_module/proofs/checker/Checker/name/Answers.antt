@@ -1,7 +1,7 @@
 use Rattle.std.proofs.Common.{◌≡◌, ◌∙◌, None, ap, bytes_eq, sym}
 use Rattle.wgsl_module.specs.Named.{is_called}
 use Rattle.wgsl_module.specs.Order.{name_at, unless_called}
-use Rattle.wgsl_module.specs.typing.StructNames.{index_of}
+use Rattle.wgsl_typing.specs.StructNames.{index_of}
 use Rattle.wgsl_module.proofs.Named.{name_given}
 use Rattle.wgsl_module.proofs.checker.Checker.name.Goals as goal
 

@@ -6,8 +6,8 @@ use Rattle.wgsl_module.specs.Noted.{HasArguments, attribute_on}
 use Rattle.wgsl_module.specs.States.{State, noted, state}
 use Rattle.wgsl_module.proofs.checker.Checker.put_arguments.Goals as goal
 use Rattle.wgsl_syntax.specs.Names.{named}
-use Rattle.wgsl_module.specs.typing.Names.{word_in}
-use Rattle.wgsl_module.specs.typing.Stacks.{Stack, below, name_on, stack, with_items}
+use Rattle.wgsl_typing.specs.Names.{word_in}
+use Rattle.wgsl_typing.specs.Stacks.{Stack, below, name_on, stack, with_items}
 
 pub returns-clause-arguments : goal.returns-clause-arguments
 returns-clause-arguments c =

@@ -2,7 +2,7 @@ use Rattle.std.proofs.Common.{◌∙◌, [], ap, false, refl, subst}
 use Rattle.wgsl_module.specs.Declarations.{written_in}
 use Rattle.wgsl_module.specs.Recursion.{HasCallOrder}
 use Rattle.wgsl_module.specs.States.{state, with_names}
-use Rattle.wgsl_module.specs.typing.Stacks.{Stack}
+use Rattle.wgsl_typing.specs.Stacks.{Stack}
 use Rattle.wgsl_module.proofs.checker.Checker.read.Goals as goal
 
 pub returns-clause-parts : goal.returns-clause-parts

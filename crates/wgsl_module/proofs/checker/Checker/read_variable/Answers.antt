@@ -1,10 +1,10 @@
 use Rattle.std.proofs.Common.{◌∙◌, None, ap, option_map, subst}
 use Rattle.wgsl_module.proofs.Variables.{outcome_behind}
 use Rattle.wgsl_module.proofs.checker.Checker.read_variable.Goals as goal
-use Rattle.wgsl_module.specs.declared.typing.known.Part.{Part}
+use Rattle.wgsl_typing.specs.declared.known.Part.{Part}
 use Rattle.wgsl_module.specs.States.{state}
-use Rattle.wgsl_module.specs.typing.Declarations.{IsVariable, declared_on}
-use Rattle.wgsl_module.specs.typing.Stacks.{below_initializer}
+use Rattle.wgsl_typing.specs.Declarations.{IsVariable, declared_on}
+use Rattle.wgsl_typing.specs.Stacks.{below_initializer}
 use Rattle.wgsl_syntax.specs.declared.address.AddressSpace.TheVariants.{Function}
 
 pub returns-clause-variable : goal.returns-clause-variable

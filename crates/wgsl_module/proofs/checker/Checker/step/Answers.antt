@@ -3,9 +3,9 @@ use Rattle.wgsl_module.specs.Noted.{DoesIf}
 use Rattle.wgsl_module.specs.States.{State, state}
 use Rattle.wgsl_module.proofs.Source.{context_kept}
 use Rattle.wgsl_module.proofs.checker.Checker.step.Goals as goal
-use Rattle.wgsl_module.specs.typing.Names.{Context}
-use Rattle.wgsl_module.specs.typing.Stacks.{stack}
-use Rattle.wgsl_module.specs.typing.Steps.{StepIf, is_of_expressions}
+use Rattle.wgsl_typing.specs.Names.{Context}
+use Rattle.wgsl_typing.specs.Stacks.{stack}
+use Rattle.wgsl_typing.specs.Steps.{StepIf, is_of_expressions}
 
 pub returns-then-branch : goal.returns-then-branch
 returns-then-branch c =

@@ -1,7 +1,7 @@
 use Rattle.std.proofs.Common.{None, option_map, subst, sym}
 use Rattle.wgsl_module.proofs.Variables.{held_or_none}
 use Rattle.wgsl_module.proofs.checker.Checker.typed_variable.Goals as goal
-use Rattle.wgsl_module.specs.typing.Declarations.{IsVariable}
+use Rattle.wgsl_typing.specs.Declarations.{IsVariable}
 use Rattle.wgsl_syntax.specs.declared.address.AddressSpace.TheVariants.{Function}
 
 pub returns-clause-variable : goal.returns-clause-variable

@@ -1,7 +1,0 @@
-use Rattle.std.proofs.Common.{ap, Some, ◌∙◌}
-use Rattle.wgsl_module.specs.declared.typing.value.Value.TheVariants.{Elements}
-use Rattle.wgsl_module.proofs.typing.expressions.Expressions.keep_all.Goals as goal
-
-pub returns-clause-kept : goal.returns-clause-kept
-returns-clause-kept c =
-    (c.in_ok-values.values, c.in_ok-values.ensures, c.in_ok-push.ensures.items, ap (λ n. Some (Elements n)) (c.len-which.ensures ∙ c.args.self.now.elements.ok.0))

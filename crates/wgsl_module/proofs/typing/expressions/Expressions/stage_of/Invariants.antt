@@ -1,7 +1,0 @@
-use Rattle.std.proofs.Common.{◌≡◌, drop}
-use Rattle.wgsl_module.proofs.Common.{later, stage_of}
-use Rattle.wgsl_module.proofs.typing.expressions.Expressions.stage_of.Given as goal
-
--- the stage so far, and that of the arguments that are left
-abbrev pub invariant-loop-argument : goal.invariant-loop-argument
-invariant-loop-argument l = later l.stage (stage_of (drop l.argument-index l.arguments)) ≡ stage_of l.arguments

@@ -1,7 +1,0 @@
-use Rattle.std.proofs.Common.{◌≡◌}
-use Rattle.wgsl_module.specs.typing.Stacks.{stack}
-use Rattle.wgsl_module.proofs.typing.expressions.Expressions.values_fit.Given as goal
-
--- what is read stays as it is
-abbrev pub invariant-loop-argument : goal.invariant-loop-argument
-invariant-loop-argument l = stack l.self ≡ stack l.fn.self

@@ -1,0 +1,11 @@
+pub mod Common
+pub mod GivenBack
+pub mod Indices
+pub mod OnlyMember
+pub mod Operands
+pub mod Outcomes
+pub mod Parameters
+pub mod Scopes
+pub mod Shorts
+pub mod StructNames
+pub mod Taken

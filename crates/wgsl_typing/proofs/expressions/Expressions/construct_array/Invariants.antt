@@ -1,0 +1,7 @@
+use Rattle.std.proofs.Common.{◌≡◌}
+use Rattle.wgsl_typing.specs.Stacks.{stack}
+use Rattle.wgsl_typing.proofs.expressions.Expressions.construct_array.Given as goal
+
+-- what is read stays as it is
+abbrev pub invariant-loop-argument : goal.invariant-loop-argument
+invariant-loop-argument l = stack l.self ≡ stack l.fn.self

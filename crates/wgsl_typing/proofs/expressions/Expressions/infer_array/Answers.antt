@@ -1,0 +1,9 @@
+use Rattle.std.proofs.Common.{IfOk, subst}
+use Rattle.wgsl_typing.proofs.Common.{Stage, IsFound}
+use Rattle.wgsl_typing.proofs.Outcomes.{inferred_in}
+use Rattle.wgsl_typing.proofs.expressions.Expressions.infer_array.Goals as goal
+
+pub returns-clause-answer : goal.returns-clause-answer
+returns-clause-answer c =
+    let P : Stage → Type 0 = λ s. IfOk c.made.result (IsFound s c.in_ok-found.found) in
+    inferred_in c.args.call.now.arguments.now c.in_ok-found.found c.made.result c.in_ok-found.ensures (subst P c.stage_of-stage.ensures c.made.ensures.answer)
