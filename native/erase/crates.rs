@@ -9,7 +9,7 @@ use std::path::{Path, PathBuf};
 const REACHED: [(&str, &str); 4] = [
     ("", "wgsl_calls"),
     ("STANDARD", "wgsl_standard"),
-    ("TEXT", "wgsl_reader wgsl_spelling wgsl_expressions wgsl_module wgsl_report wgsl_c"),
+    ("TEXT", "wgsl_reader wgsl_spelling wgsl_requests wgsl_module wgsl_report wgsl_c"),
     ("STD", "wgsl_check wgsl"),
 ];
 

@@ -9,10 +9,10 @@ use Rattle.wgsl_requests.proofs.OneAnswer.{one_form_type, one_explanation, one_r
 use Rattle.wgsl_lines.proofs.Calls.{a_call, a_constructor}
 use Rattle.wgsl_lines.proofs.Operators.{a_rank, a_received, a_binary, a_unary}
 use Rattle.wgsl_lines.proofs.Sizes.{exact_alignment, exact_size, layout_or_cause, offsets_or_cause}
-use Rattle.wgsl_expressions.specs.Outcomes.{Outcome}
-use Rattle.wgsl_expressions.specs.Source.{Scope}
-use Rattle.wgsl_expressions.specs.Typing.{IsTyped}
-use Rattle.wgsl_expressions.proofs.OneOutcome.{one_outcome}
+use Rattle.wgsl_requests.specs.expressions.Outcomes.{Outcome}
+use Rattle.wgsl_requests.specs.expressions.Source.{Scope}
+use Rattle.wgsl_requests.specs.expressions.Typing.{IsTyped}
+use Rattle.wgsl_requests.proofs.OneOutcome.{one_outcome}
 use Rattle.std.proofs.Common.{Bool}
 use Rattle.wgsl_lines.specs.Output.{Prints, is_readable, lines_of, printed_from}
 use Rattle.wgsl_lines.proofs.Taken.{one_text}

@@ -4,9 +4,9 @@ ghost use Rattle.wgsl_requests.specs.Answers.{Answers, WgslAnswer};
 ghost use Rattle.wgsl_requests.specs.Requests.{WgslRequest};
 ghost use Rattle.wgsl_lines.specs.Output.{Prints};
 ghost use Rattle.wgsl_requests.specs.Replies.{ReplyText};
-ghost use Rattle.wgsl_expressions.specs.Outcomes.{Outcome};
-ghost use Rattle.wgsl_expressions.specs.Source.{Scope};
-ghost use Rattle.wgsl_expressions.specs.Typing.{IsTyped};
+ghost use Rattle.wgsl_requests.specs.expressions.Outcomes.{Outcome};
+ghost use Rattle.wgsl_requests.specs.expressions.Source.{Scope};
+ghost use Rattle.wgsl_requests.specs.expressions.Typing.{IsTyped};
 ghost use Rattle.wgsl_replies.specs.Replies.{IsReplyTo};
 ghost use Rattle.wgsl_syntax.specs.declared.rules.RuleSet.{RuleSet};
 

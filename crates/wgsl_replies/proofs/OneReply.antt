@@ -5,7 +5,7 @@ use Rattle.wgsl_requests.proofs.OneAnswer.{HasOne, EachAnswered}
 use Rattle.wgsl_syntax.specs.declared.rules.RuleSet.{RuleSet}
 use Rattle.wgsl_syntax.specs.declared.rules.RuleSet.TheVariants.{Ported, Standard}
 use Rattle.wgsl_replies.proofs.OneReplyToWords.{one_to_line}
-use Rattle.wgsl_expressions.proofs.OneOutcome.{one_standard_reply}
+use Rattle.wgsl_requests.proofs.OneOutcome.{one_standard_reply}
 use Rattle.wgsl_replies.specs.Replies.{IsReplyTo, IsReplyToLine}
 
 pub one_line_reply : (rules : RuleSet) (bytes : List ℕ) → HasOne EachAnswered (IsReplyToLine rules bytes)

@@ -9,9 +9,9 @@ use Rattle.wgsl_syntax.specs.declared.rules.RuleSet.{RuleSet}
 use Rattle.wgsl_syntax.specs.declared.rules.RuleSet.TheVariants.{Ported, Standard}
 use Rattle.wgsl_replies.specs.words.Requests.{IsReplyToLine as IsReplyToWords}
 use Rattle.wgsl_replies.specs.words.Reader.{words_of}
-use Rattle.wgsl_expressions.specs.Typing.{IsBlank as has_no_tokens, IsStandardReply}
+use Rattle.wgsl_requests.specs.expressions.Typing.{IsBlank as has_no_tokens, IsStandardReply}
 use Rattle.wgsl_replies.specs.declared.words.why.Why.TheVariants as words
-use Rattle.wgsl_expressions.specs.declared.why.Why.TheVariants as line
+use Rattle.wgsl_requests.specs.declared.expressions.why.Why.TheVariants as line
 use Rattle.wgsl_replies.specs.declared.request.Reply.{Reply}
 use Rattle.wgsl_replies.specs.declared.request.Why.{Why}
 use Rattle.wgsl_replies.specs.declared.request.Why.TheVariants as y

@@ -8,8 +8,8 @@ ghost use Rattle.wgsl_replies.specs.Replies.{IsBlank, IsExplanation, IsReplyTo, 
 use crate::words::reply::write_reply as write_reply_to_words;
 use crate::words::why::{Why as WordsWhy, write_why as write_why_of_words};
 use std::alloc::{AllocError, Global};
-use wgsl_expressions::reply::write_standard_reply;
-use wgsl_expressions::why::{Why as LineWhy, write_why as write_why_of_line};
+use wgsl_requests::expressions::reply::write_standard_reply;
+use wgsl_requests::expressions::why::{Why as LineWhy, write_why as write_why_of_line};
 use wgsl_requests::reply::has_line_feed;
 pub use wgsl_requests::reply::{LONGEST, ReplyKind, TextKind};
 use wgsl_syntax::rules::RuleSet;

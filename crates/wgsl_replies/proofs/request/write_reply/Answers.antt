@@ -3,7 +3,7 @@ use Rattle.std.specs.Prelude.{string_bytes}
 use Rattle.wgsl_requests.specs.Replies.{ReplyText, WritesReply}
 use Rattle.wgsl_requests.specs.declared.reply.ReplyKind.{ReplyKind}
 use Rattle.wgsl_requests.specs.declared.reply.ReplyKind.TheVariants as k
-use Rattle.wgsl_expressions.specs.Typing.{IsStandardReply}
+use Rattle.wgsl_requests.specs.expressions.Typing.{IsStandardReply}
 use Rattle.wgsl_replies.specs.Replies.{why_seen}
 use Rattle.wgsl_replies.specs.declared.request.Why.TheVariants as y
 use Rattle.wgsl_replies.proofs.request.write_reply.Goals as goal

@@ -1,6 +1,0 @@
-use Rattle.wgsl_expressions.proofs.Common.{◌≡◌, map, member_view, view}
-use Rattle.wgsl_expressions.proofs.heading.types_of.Given as goal
-
--- the type of each member so far
-abbrev pub invariant-loop-member : goal.invariant-loop-member
-invariant-loop-member l = map view l.types.items ≡ map (λ m. m.ty) (map member_view l.yielded)

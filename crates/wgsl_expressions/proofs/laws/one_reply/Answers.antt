@@ -1,5 +1,0 @@
-use Rattle.wgsl_expressions.proofs.OneOutcome.{one_standard_reply}
-use Rattle.wgsl_expressions.proofs.laws.one_reply.Goals as goal
-
-pub returns : goal.returns
-returns c = λ line. (one_standard_reply line).once

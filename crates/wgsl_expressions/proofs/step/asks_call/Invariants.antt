@@ -1,6 +1,0 @@
-use Rattle.wgsl_expressions.proofs.Common.{◌≡◌, drop, asks_call}
-use Rattle.wgsl_expressions.proofs.step.asks_call.Given as goal
-
--- those that are left ask as all do
-abbrev pub invariant-loop-event : goal.invariant-loop-event
-invariant-loop-event l = asks_call l.fn.events ≡ asks_call (drop l.event-index l.fn.events)
