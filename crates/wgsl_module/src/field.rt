@@ -95,13 +95,69 @@ impl<'t> Checker<'t> {
                 members.push(member)?;
             }
         }
-        let are_fine = self.check_locations(fields)? && members.len() == fields.len();
+        let are_fine = self.check_locations(fields)?
+            && members.len() == fields.len()
+            && self.check_sources(fields)?;
         match names {
             Some(names) if are_fine => {
                 let name = String::from_str(self.expressions.alloc, self.word(named))?;
                 self.declared_struct(named, StructType { name, members }, names)
             }
             _ => Ok(Known::Faulty),
+        }
+    }
+
+    /// Whether no member has a `@blend_src`, or two of one type have one and no other member has a `@location`. Otherwise
+    /// that is told.
+    fn check_sources(&mut self, fields: &[Field]) -> Result<bool, AllocError>
+        ensures { Keeps (state self.old) (state self.new) }
+    {
+        let Some((place, message)) = self.wrong_source(fields) else {
+            return Ok(true);
+        };
+        self.tell(Rule::EntryPoint, place, message)?;
+        Ok(false)
+    }
+
+    /// The member that can't stand beside one with a `@blend_src`, and why.
+    fn wrong_source(&self, fields: &[Field]) -> Option<(Place, &'static str)> {
+        let first = self.first_source(fields)?;
+        let mut count: usize = 0;
+        for field in fields {
+            if self.has(field.attributes, Name::Location) {
+                if let Some(message) = self.unlike(first, field) {
+                    return Some((field.place, message));
+                }
+                count = count.saturating_add(1);
+            }
+        }
+        match count {
+            2 => None,
+            _ => Some((
+                first.place,
+                "@blend_src(0) and @blend_src(1) stand in one struct",
+            )),
+        }
+    }
+
+    /// The first member with a `@blend_src`.
+    fn first_source<'f>(&self, fields: &'f [Field]) -> Option<&'f Field> {
+        for field in fields {
+            if self.has(field.attributes, Name::BlendSrc) {
+                return Some(field);
+            }
+        }
+        None
+    }
+
+    /// Why a member with a `@location` can't stand beside the first one with a `@blend_src`.
+    fn unlike(&self, first: &Field, field: &Field) -> Option<&'static str> {
+        if !self.has(field.attributes, Name::BlendSrc) {
+            return Some("this @location stands beside a @blend_src");
+        }
+        match (&first.ty, &field.ty) {
+            (Some(a), Some(b)) if a != b => Some("members with @blend_src have one type"),
+            _ => None,
         }
     }
 

@@ -270,6 +270,10 @@ impl<'t> Checker<'t> {
             || self.has(field.attributes, Name::Builtin);
         let index = match ty.form() {
             Form::Struct(of) if !is_value => self.expressions.names.get(of.name.as_str()).copied(),
+            _ if !side.is_input && self.has(field.attributes, Name::BlendSrc) => {
+                let message = "@blend_src is for members of a struct";
+                return self.is_right(field, Some(Trouble::Type(message)));
+            }
             _ => return self.carry_value(side, field, ty),
         };
         let Some(index) = index else {
