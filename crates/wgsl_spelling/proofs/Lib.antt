@@ -1,6 +1,5 @@
 pub mod Common
 pub mod Names
-pub mod Steps
 pub mod OneSpelled
 pub mod Trees
 pub mod TreeTokens
