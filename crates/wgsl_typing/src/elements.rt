@@ -81,30 +81,31 @@ impl<'t> Expressions<'t> {
         found?.in_type(ty)
     }
 
-    /// The value in a type to which its own converts: `Ok(None)` if it isn't computed there.
+    /// The value in a type to which its own converts: `Ok(None)` if it isn't computed there. An array converts with its elements.
     pub fn converted(&self, value: Value, ty: &Type) -> Result<Option<Value>, OutOfRange> {
-        match (value, ty.form()) {
-            (Value::Elements(which), Form::Array(_, of)) if !self.are_held(which, of) => {
-                Err(OutOfRange)
-            }
-            _ => value.converted(ty),
+        match is_held(&self.elements, value, ty) {
+            true => value.converted(ty),
+            false => Err(OutOfRange),
         }
     }
+}
 
-    /// Whether a type holds the values of elements, of which no array is looked into.
-    fn are_held(&self, which: usize, ty: &Type) -> bool {
-        let Some(values) = self.elements.get(which) else {
-            return true;
-        };
-        for value in values {
-            if let Some(value) = value {
-                if value.converted(ty).is_err() {
-                    return false;
-                }
+/// Whether a type holds a value; an array with all its elements that are computed.
+fn is_held(elements: &[Vec<Option<Value>>], value: Value, ty: &Type) -> bool {
+    let Value::Elements(which) = value else {
+        return value.converted(ty).is_ok();
+    };
+    let (Some(values), Form::Array(_, of)) = (elements.get(which), ty.form()) else {
+        return true;
+    };
+    for value in values {
+        if let Some(value) = value {
+            if !is_held(elements, *value, of) {
+                return false;
             }
         }
-        true
     }
+    true
 }
 
 /// The value of each expression; None if it isn't computed.
