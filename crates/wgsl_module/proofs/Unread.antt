@@ -4,9 +4,10 @@ use Rattle.std.proofs.lemmas.List.{map_push}
 use Rattle.wgsl_module.proofs.Behind.{fewer_behind}
 use Rattle.wgsl_module.proofs.Named.{called_after}
 use Rattle.wgsl_module.specs.Declarations.{Written, written}
+use Rattle.wgsl_module.specs.Directives.{Directs}
 use Rattle.wgsl_module.specs.Noted.{Comes}
 use Rattle.wgsl_module.specs.States.{State, cleared}
-use Rattle.wgsl_module.specs.Runs.{AreBodies, AreDeclarations, Declares, DeclaresIf, Directs, Ends, IsBody, IsModule}
+use Rattle.wgsl_module.specs.Runs.{AreBodies, AreDeclarations, Declares, DeclaresIf, Ends, IsBody, IsModule}
 use Rattle.wgsl_module.specs.declared.declaration.Declaration.{Declaration}
 use Rattle.wgsl_module.specs.declared.declaration.DeclarationKind.{DeclarationKind}
 use Rattle.wgsl_module.specs.declared.declaration.DeclarationKind.TheVariants as kinds
@@ -20,12 +21,12 @@ no_event tokens (e ∷ events) s r none come = cc none
 no_end : (kind : DeclarationKind) (s r : State) → kind ≡ kinds.Misread → Ends kind s r → r ≡ s
 no_end kind s r is end = subst (λ k. Ends k s r) is end
 
-no_directive : (kind : DeclarationKind) (s r : State) → kind ≡ kinds.Misread → Directs kind s r → r ≡ s
-no_directive kind s r is directs = subst (λ k. Directs k s r) is directs
+no_directive : (kind : DeclarationKind) (events : List Event) (s r : State) → kind ≡ kinds.Misread → Directs kind events s r → r ≡ s
+no_directive kind events s r is directs = subst (λ k. Directs k events s r) is directs
 
 no_events : (tokens : List Token) (x : Written) (s r : State) → x.kind ≡ kinds.Misread → x.events ≡ [] → Declares tokens x.kind x.events s r → r ≡ s
 no_events tokens x s r kind none is =
-    no_end x.kind is.1 r kind is.4 ∙ (no_event tokens x.events is.0 is.1 none is.3 ∙ no_directive x.kind s is.0 kind is.2)
+    no_end x.kind is.1 r kind is.4 ∙ (no_event tokens x.events is.0 is.1 none is.3 ∙ no_directive x.kind x.events s is.0 kind is.2)
 
 one_fewer : (tokens : List Token) (ws : List Written) (x : Written) (index : ℕ) (s r : State) → x.kind ≡ kinds.Misread → x.events ≡ []
     → DeclaresIf tokens (slice_get (ws ++ x ∷ []) index) s r → DeclaresIf tokens (slice_get ws index) s r

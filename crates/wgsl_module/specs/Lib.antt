@@ -5,6 +5,7 @@ pub mod Called
 pub mod Checked
 pub mod Control
 pub mod Declarations
+pub mod Directives
 pub mod Flow
 pub mod Named
 pub mod Noted

@@ -2,16 +2,18 @@
 use Rattle.std.specs.Prelude.{◌≡◌, ℕ, List, [], ◌∷◌, Bool, true, false, Option, Some, None, length, map, slice_get}
 use Rattle.wgsl_module.specs.Declarations.{Written, written_in}
 use Rattle.wgsl_module.specs.Blocks.{Binds, Closes, Opens, locals_in, with_blocks, with_locals, with_loops, with_skipped}
+use Rattle.wgsl_module.specs.Directives.{Directs}
 use Rattle.wgsl_module.specs.Named.{first_called, is_colon, named_by}
 use Rattle.wgsl_module.specs.Noted.{Comes, DeclaresOverride, DeclaresResult, DeclaresValue, DeclaresVariable, Uses}
 use Rattle.wgsl_module.specs.Order.{HasEach, IsBehind}
-use Rattle.wgsl_module.specs.States.{Keeps, KeepsButExtensions, KeepsButStructs, State, cleared, with_meaning, with_names}
+use Rattle.wgsl_module.specs.States.{Keeps, KeepsButStructs, State, cleared, with_meaning, with_names}
 use Rattle.wgsl_module.specs.declared.declaration.DeclarationKind.{DeclarationKind}
 use Rattle.wgsl_module.specs.declared.declaration.DeclarationKind.TheVariants as kinds
 use Rattle.wgsl_typing.specs.declared.fault.Fault.{Fault}
 use Rattle.wgsl_typing.specs.declared.known.Known.{Known}
 use Rattle.wgsl_typing.specs.declared.known.Part.{Part}
 use Rattle.wgsl_typing.specs.declared.known.Typed.{Typed}
+use Rattle.wgsl_typing.specs.Extensions.{none_enabled}
 use Rattle.wgsl_typing.specs.Scopes.{scope_view}
 use Rattle.wgsl_typing.specs.StructNames.{index_of}
 use Rattle.wgsl_typing.specs.Words.{kind_of_any}
@@ -26,12 +28,6 @@ use Rattle.wgsl_reader.specs.declared.token.Token.{Token}
 
 -- Declarations
 
--- A directive may enable extensions: which isn't said here.
-abbrev pub Directs : DeclarationKind → State → State → Type 0
-Directs kinds.Enable s r = KeepsButExtensions s r
-Directs kinds.Directive s r = KeepsButExtensions s r
-Directs other s r = Keeps s r
-
 -- What a declaration takes at its end. The parts of structs and functions are taken in front of it, one by one; the members that a
 -- struct has from then on aren't said here.
 abbrev pub Ends : DeclarationKind → State → State → Type 0
@@ -45,7 +41,7 @@ Ends other s r = Keeps s r
 
 -- what comes of the events of a declaration, of a directive and of its end
 abbrev pub Declares : List Token → DeclarationKind → List Event → State → State → Type 0
-Declares tokens kind events s r = (first : State) × (last : State) × Directs kind s first × Comes tokens events first last × Ends kind last r
+Declares tokens kind events s r = (first : State) × (last : State) × Directs kind events s first × Comes tokens events first last × Ends kind last r
 
 abbrev pub DeclaresIf : List Token → Option Written → State → State → Type 0
 DeclaresIf tokens (Some d) s r = Declares tokens d.kind d.events s r
@@ -125,9 +121,10 @@ abbrev pub IsModule : List ℕ → List Token → List Written → State → Sta
 IsModule cycles tokens ds s r = (order : List ℕ) × (between : State) × HasEach 0 (length ds) order
     × IsBehind (named_by s.stack.context ds) cycles order × AreDeclarations tokens ds order s between × AreBodies tokens ds between r × AreNamed s ds
 
--- nothing is read of this text, which has these tokens: no function has names
+-- nothing is read of this text, which has these tokens: no function has names, and no extension is enabled
 abbrev pub IsUnread : List ℕ → List Token → State → Type 0
 IsUnread text tokens s = (s.stack.parts ≡ []) × (s.stack.context.text ≡ text) × (s.stack.context.tokens ≡ tokens) × (scope_view (locals_in s) ≡ [] ∷ [])
+    × (s.stack.context.extensions ≡ none_enabled)
 
 -- nothing is read but names of the module
 abbrev pub IsUnreadAs : State → State → Type 0

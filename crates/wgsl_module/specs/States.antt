@@ -84,9 +84,6 @@ KeepsButStructs s r = r ≡ with_structs r.stack.context.structs s
 abbrev pub with_extensions : Extensions → State → State
 with_extensions extensions s = record s { stack = record s.stack { context = record s.stack.context { extensions = extensions } } }
 
-abbrev pub KeepsButExtensions : State → State → Type 0
-KeepsButExtensions s r = r ≡ with_extensions r.stack.context.extensions s
-
 -- the declaration with an index stands for that
 abbrev pub with_meaning : ℕ → Option Known → State → State
 with_meaning index known s = record s { stack = with_declared (with_known index known s.stack.context.declared) s.stack }

@@ -1,6 +1,7 @@
 // The state of a check.
 ghost use Rattle.std.specs.Prelude.{◌≡◌, [], ◌∷◌};
 ghost use Rattle.wgsl_module.specs.States.{Keeps, cleared, state};
+ghost use Rattle.wgsl_typing.specs.Extensions.{none_enabled};
 ghost use Rattle.wgsl_typing.specs.Scopes.{scope_view};
 ghost use Rattle.wgsl_typing.specs.Words.{word_at};
 
@@ -64,6 +65,7 @@ impl<'t> Checker<'t> {
         ensures text { (state result).stack.context.text ≡ text.now }
         ensures tokens { (state result).stack.context.tokens ≡ tokens.now }
         ensures scope { scope_view (state result).stack.context.locals ≡ [] ∷ [] }
+        ensures extensions { (state result).stack.context.extensions ≡ none_enabled }
     {
         Checker {
             expressions: Expressions::none(alloc, text, tokens),

@@ -1,15 +1,17 @@
 // Declarations, each behind those that it needs.
-ghost use Rattle.std.specs.Prelude.{◌≡◌, IfOk, map, option_map, slice_get};
+ghost use Rattle.std.specs.Prelude.{◌≡◌, ◌∷◌, [], IfOk, map, option_map, slice_get};
 ghost use Rattle.wgsl_module.specs.Declarations.{written};
+ghost use Rattle.wgsl_module.specs.Directives.{Directs};
 ghost use Rattle.wgsl_module.specs.Noted.{Comes};
-ghost use Rattle.wgsl_module.specs.Runs.{AreDeclarations, Declares, Directs, Ends, IsDeclaration};
-ghost use Rattle.wgsl_module.specs.States.{Keeps, KeepsButExtensions, KeepsButStructs, source, state};
+ghost use Rattle.wgsl_module.specs.Runs.{AreDeclarations, Declares, Ends, IsDeclaration};
+ghost use Rattle.wgsl_module.specs.States.{Keeps, KeepsButStructs, source, state};
 
 use crate::attribute::{Attributes, Owner};
 use crate::checker::{Checker, Interface};
 use crate::declaration::{Declaration, DeclarationKind};
 use std::alloc::AllocError;
 use wgsl_reader::mark::Mark;
+use wgsl_reader::read::Event;
 use wgsl_reader::token::Token;
 use wgsl_source::fault::{Cause, ExtensionKind};
 use wgsl_standard::forms::declare::Declaration as Form;
@@ -45,7 +47,7 @@ impl<'t> Checker<'t> {
 
     /// Directives enable extensions, and filter diagnostics together: the attributes of others filter on their own.
     fn begin_declaration(&mut self, declaration: Declaration<'t>) -> Result<(), AllocError>
-        ensures directive { IfOk result (λ u. Directs declaration.entry.kind (state self.old) (state self.new)) }
+        ensures directive { IfOk result (λ u. Directs declaration.entry.kind declaration.entry.events.now (state self.old) (state self.new)) }
         ensures source { IfOk result (λ u. source (state self.new) ≡ source (state self.old)) }
     {
         match declaration.kind {
@@ -61,18 +63,10 @@ impl<'t> Checker<'t> {
 
     /// Enables extensions, and says which names are none.
     fn tell_extensions(&mut self, declaration: Declaration<'t>) -> Result<(), AllocError>
-        ensures { KeepsButExtensions (state self.old) (state self.new) }
+        ensures { IfOk result (λ u. Directs declaration.entry.kind declaration.entry.events.now (state self.old) (state self.new)) }
     {
         for event in declaration.events {
-            let name = self.word(event.at);
-            let is_known = match (event.mark, declaration.kind) {
-                (Mark::Extension, DeclarationKind::Enable) => {
-                    self.expressions.extensions.enable(name)
-                }
-                (Mark::Extension, _) => is_required(name),
-                _ => true,
-            };
-            if !is_known {
+            if !self.enable(declaration.kind, *event) {
                 let kind = match declaration.kind {
                     DeclarationKind::Enable => ExtensionKind::Enabled,
                     _ => ExtensionKind::Required,
@@ -82,6 +76,20 @@ impl<'t> Checker<'t> {
             }
         }
         Ok(())
+    }
+
+    /// Enables the extension that an event of an `enable` names. Returns false if the name of an event is that of none.
+    fn enable(&mut self, kind: DeclarationKind, event: Event) -> bool
+        ensures { Directs kind (event ∷ []) (state self.old) (state self.new) }
+    {
+        let name = self.word(event.at);
+        match event.mark {
+            Mark::Extension => match kind {
+                DeclarationKind::Enable => self.expressions.extensions.enable(name),
+                _ => is_required(name),
+            },
+            _ => true,
+        }
     }
 
     /// Reads a declaration. Returns what its name stands for.

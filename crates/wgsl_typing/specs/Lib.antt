@@ -3,6 +3,7 @@ pub mod Computed
 pub mod Counts
 pub mod Declarations
 pub mod Elements
+pub mod Extensions
 pub mod Faults
 pub mod Indices
 pub mod Known

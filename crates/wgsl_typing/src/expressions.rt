@@ -4,6 +4,7 @@ ghost use Rattle.wgsl_core.specs.View.{view};
 ghost use Rattle.wgsl_standard.specs.forms.Views.{answer_view, form_type_view};
 ghost use Rattle.wgsl_typing.specs.Faults.{IsTold, IsToldIf};
 ghost use Rattle.wgsl_typing.specs.Declarations.{answer_of};
+ghost use Rattle.wgsl_typing.specs.Extensions.{none_enabled};
 ghost use Rattle.wgsl_typing.specs.Scopes.{scope_view};
 ghost use Rattle.wgsl_typing.specs.Stacks.{below, stack, with_item, with_items, with_parts};
 ghost use Rattle.wgsl_typing.specs.Words.{kind_at, kind_of_any, word_at};
@@ -101,6 +102,7 @@ impl<'t> Expressions<'t> {
         ensures text { (stack result).context.text ≡ text.now }
         ensures tokens { (stack result).context.tokens ≡ tokens.now }
         ensures scope { scope_view (stack result).context.locals ≡ [] ∷ [] }
+        ensures extensions { (stack result).context.extensions ≡ none_enabled }
     {
         Expressions {
             alloc,

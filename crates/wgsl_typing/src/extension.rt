@@ -1,4 +1,6 @@
 // The extensions that a module enables (WGSL, "Enable Directive").
+ghost use Rattle.std.specs.Prelude.{◌≡◌};
+ghost use Rattle.wgsl_typing.specs.Extensions.{is_extension, is_foreign, with_enabled};
 
 /// The extensions that a module enables.
 #[derive(Clone, Copy)]
@@ -21,7 +23,10 @@ impl Extensions {
     };
 
     /// Notes an extension of `enable`. Returns whether it is known.
-    pub fn enable(&mut self, name: &str) -> bool {
+    pub fn enable(&mut self, name: &str) -> bool
+        ensures enabled { self.new ≡ with_enabled name.now self.old }
+        ensures known { result ≡ is_extension name.now }
+    {
         match name {
             "f16" => self.f16 = true,
             "subgroups" => self.subgroups = true,
@@ -29,10 +34,17 @@ impl Extensions {
             "dual_source_blending" => self.dual_source_blending = true,
             "primitive_index" => self.primitive_index = true,
             "subgroup_size_control" | "atomic_vec2u_min_max" => {}
-            _ => return name.starts_with("wgpu_") || name.starts_with("chromium_"),
+            _ => return is_foreign(name),
         }
         true
     }
+}
+
+/// Whether a name is that of an extension which implementations have beside WGSL's.
+fn is_foreign(name: &str) -> bool
+    ensures { result ≡ is_foreign name.now }
+{
+    name.starts_with("wgpu_") || name.starts_with("chromium_")
 }
 
 /// Whether an extension of `requires` is known.

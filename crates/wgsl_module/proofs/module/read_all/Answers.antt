@@ -26,6 +26,7 @@ returns-clause-parts c =
           ap (λ t. t.context.text) r.3 ∙ none.text,
           ap (λ t. t.context.tokens) r.3 ∙ none.tokens,
           ap (λ t. scope_view t.context.locals) r.3 ∙ none.scope,
+          ap (λ t. t.context.extensions) r.3 ∙ none.extensions,
         ),
         r.4,
         r.5,
