@@ -5,7 +5,7 @@ use Rattle.wgsl_module.specs.Declarations.{Written, written}
 use Rattle.wgsl_module.specs.Named.{Naming, first_called, named_by, named_from, naming}
 use Rattle.wgsl_module.specs.States.{state}
 use Rattle.wgsl_typing.specs.Names.{Context}
-use Rattle.wgsl_module.specs.Order.{HaveNames, IsBehind, LeadsTo, itself, leads_of, through}
+use Rattle.wgsl_module.specs.Order.{HaveNames, IsBehind, IsInTurn, LeadsTo, itself, leads_of, through}
 use Rattle.wgsl_module.specs.declared.checker.Checker.{Checker}
 use Rattle.wgsl_module.specs.declared.walk.Link.TheVariants as links
 use Rattle.wgsl_typing.specs.StructNames.{index_of}
@@ -24,6 +24,10 @@ same_behind f g cycles order same behind front index rest is other stands h =
       | inl in_it ↦ inl in_it
       | inr way ↦ inr (way.0, same_way f g same way.1)
     ]
+
+pub same_in_turn : (f g : ℕ → List ℕ) (from to : ℕ) (order : List ℕ) → ((i : ℕ) → f i ≡ g i) → IsInTurn f from to order → IsInTurn g from to order
+same_in_turn f g from to order same turn front index rest is inside =
+    let reached = turn front index rest is inside in (reached.0, same_way f g same reached.1, reached.2)
 
 same_from : (text : List ℕ) (tokens : List Token) (f g : List ℕ → Option ℕ) → ((name : List ℕ) → f name ≡ g name) → (o : Option Written) (at : ℕ)
     → named_from (record { text = text; tokens = tokens; declared = f }) o at ≡ named_from (record { text = text; tokens = tokens; declared = g }) o at
@@ -104,3 +108,24 @@ fewer_behind c ws x cycles order none behind front index rest is other stands h 
   | inl in_it ↦ inl in_it
   | inr way ↦ inr (way.0, fewer_way c ws x none way.1 (named_inside c ws (slice_get ws index) other h) (names_inside (naming c.text c.tokens ws) ws index other h))
 ]
+
+in_or_last : (ws : List Written) (x : Written) (i : ℕ) → i < length (ws ++ x ∷ []) → (i < length ws) ⊎ (i ≡ length ws)
+in_or_last [] x zero below = inr refl
+in_or_last [] x (suc i) below = absurd (omega (arith, below))
+in_or_last (w ∷ ws) x zero below = inl (omega arith)
+in_or_last (w ∷ ws) x (suc i) below = elim (in_or_last ws x i (omega (arith, below))) [ inl before ↦ inl (omega (arith, before)) | inr last ↦ inr (ap suc last) ]
+
+-- what leads to another one isn't the one that is left out
+way_inside : (c : Context) (ws : List Written) (x : Written) {a b : ℕ} → x.events ≡ [] → LeadsTo (named_by c (ws ++ x ∷ [])) a b → b < length ws → a < length ws
+way_inside c ws x none (itself i) end = end
+way_inside c ws x none (through i next o first rest) end =
+    elim (in_or_last ws x i (names_inside (naming c.text c.tokens (ws ++ x ∷ [])) (ws ++ x ∷ []) i next first)) [
+      | inl inside ↦ inside
+      | inr last ↦ let past = nowhere c ws x none (through i next o first rest) last in absurd (omega (arith, past, end))
+    ]
+
+pub fewer_in_turn : (c : Context) (ws : List Written) (x : Written) (order : List ℕ) → x.events ≡ [] → IsInTurn (named_by c (ws ++ x ∷ [])) 0 (length ws) order
+    → IsInTurn (named_by c ws) 0 (length ws) order
+fewer_in_turn c ws x order none turn front index rest is inside =
+    let reached = turn front index rest is inside in
+    (reached.0, fewer_way c ws x none reached.1 (way_inside c ws x none reached.1 inside) inside, reached.2)

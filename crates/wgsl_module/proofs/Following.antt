@@ -1,7 +1,7 @@
 -- What is kept where declarations are followed: those that are open stand on the stack, each led to by the one below it.
 use Rattle.std.proofs.Common.{◌≡◌, ◌≢◌, ◌∙◌, ◌<◌, ◌≤◌, ◌⊎◌, ℕ, zero, suc, List, [], ◌∷◌, ◌++◌, true, false, Contains, Option, Some, None, ap, arith, cond, inl, inr, length, length-set, refl, set, slice_get, subst, sym, true≢false}
 use Rattle.std.proofs.lemmas.List.Elements.{Contains-append_left, Contains-append_right, Contains-push}
-use Rattle.wgsl_module.specs.Order.{LeadsTo, itself, through}
+use Rattle.wgsl_module.specs.Order.{IsInTurn, LeadsTo, itself, through}
 use Rattle.wgsl_module.specs.declared.walk.State.{State}
 use Rattle.wgsl_module.specs.declared.walk.State.TheVariants.{Done, Open, Unseen}
 use Rattle.wgsl_module.proofs.Order.{AreDone, IsOrder, StaysDone, in_front, in_order, is_done, last_or_before, one_done, same_or_not, stays_done}
@@ -146,6 +146,21 @@ one_placed leads states cycles i order ordered all placed front j rest is k h = 
     here (back way some) same = inr (inl (some, way))
     here (outside past) same = inr (inr past)
 
+-- what stands on the stack is reached from this one, below which all are done
+abbrev pub AreReached : (ℕ → List ℕ) → ℕ → ℕ → List (ℕ × ℕ) → Type 0
+AreReached leads root count stack = (k : ℕ) → Stands k stack → LeadsTo leads root k × (root < count)
+
+one_in_turn : (leads : ℕ → List ℕ) (low root i to : ℕ) (states : List State) (order : List ℕ) → IsOrder states order → AreDone low root states
+    → LeadsTo leads root i × (root < length states) → IsInTurn leads low to order → IsInTurn leads low to (order ++ i ∷ [])
+one_in_turn leads low root i to states order ordered all_done way turn front j rest is inside = elim (last_or_before order front rest i j is) [
+  | inl last ↦ (
+    root,
+    subst (LeadsTo leads root) (sym last.1) way.0,
+    λ k above under. subst (λ f. Contains f k) (sym last.0) (in_order order k 0 (ordered k ∙ ap (λ b. cond b 1 0) (all_done k above under (omega (arith, under, way.1))))),
+  )
+  | inr before ↦ turn front j before.0 before.1 inside
+]
+
 -- All
 
 -- what is kept of the declarations that are followed from a root on, those below it being done
@@ -155,6 +170,8 @@ pub record Following (from : ℕ → ℕ → List ℕ) (low root : ℕ) (states 
   pub standing : (k : ℕ) → slice_get states k ≡ Some Open → Stands k stack
   pub stacked : Stacked from states cycles None stack
   pub done : AreDone low root states
+  pub reached : AreReached (λ i. from i 0) root (length states) stack
+  pub in_turn : IsInTurn (λ i. from i 0) low (length states) order
 
 -- the top is done already, or is none
 pub top_gone : (from : ℕ → ℕ → List ℕ) (low root index at : ℕ) (cycles : List ℕ) (states : List State) (order : List ℕ) (below : List (ℕ × ℕ)) → slice_get states index ≢ Some Open
@@ -166,6 +183,8 @@ top_gone from low root index at cycles states order below shut gone f = record {
   standing = λ k is. elim (f.standing k is) [ inl same ↦ absurd (shut (subst (λ j. slice_get states j ≡ Some Open) (sym same) is)) | inr rest ↦ rest ];
   stacked = without_top from states cycles index below gone f.stacked.1;
   done = f.done;
+  reached = λ k h. f.reached k (inr h);
+  in_turn = f.in_turn;
 }
 
 none_open : (states : List State) (k : ℕ) → slice_get states k ≡ Some Done → slice_get states k ≡ Some Open → ⊥
@@ -186,6 +205,9 @@ top_done from low root index at cycles states order below s is not_done at_end f
   stacked = without_top from (set states index Done) cycles index below (λ i. done (ap is_done (set_same states index s Done is)))
       (stacked_still from states (set states index Done) cycles cycles (Some index) below grows f.stacked.1);
   done = λ k above under inside. stays_done states index k (f.done k above under (omega (arith, inside, length-set states index Done)));
+  reached = λ k h. let way = f.reached k (inr h) in (way.0, omega (arith, way.1, length-set states index Done));
+  in_turn = subst (λ n. IsInTurn (λ i. from i 0) low n (order ++ index ∷ [])) (sym (length-set states index Done))
+      (one_in_turn (λ i. from i 0) low root index (length states) states order f.ordered f.done (f.reached index (inl refl)) f.in_turn);
 }
   where
     grows : Grows states (set states index Done) cycles cycles
@@ -225,6 +247,8 @@ led_on from low root i at n behind cycles more states order below grows is next 
   standing = f.standing;
   stacked = (entry_on from states states cycles more None i at n behind g is tt (settled next) f.stacked.0, stacked_still from states states cycles more (Some i) below g f.stacked.1);
   done = f.done;
+  reached = f.reached;
+  in_turn = f.in_turn;
 }
   where
     g : Grows states states cycles more
@@ -258,9 +282,9 @@ same_order states order n unseen ordered k = elim (same_or_not n k) [
 -- it is opened, on top of what stands on the stack
 pub opened_on : (from : ℕ → ℕ → List ℕ) (low root n : ℕ) (cycles : List ℕ) (states : List State) (order : List ℕ) (stack : List (ℕ × ℕ)) → slice_get states n ≡ Some Unseen
     → IsOrder states order → IsPlaced (λ l. from l 0) (length states) cycles order → ((k : ℕ) → slice_get states k ≡ Some Open → Stands k stack)
-    → AreDone low root states → Stacked from (set states n Open) cycles (Some n) stack
-    → Following from low root (set states n Open) order cycles ((n, 0) ∷ stack)
-opened_on from low root n cycles states order stack unseen ordered placed standing all_done stacked = record {
+    → AreDone low root states → Stacked from (set states n Open) cycles (Some n) stack → AreReached (λ l. from l 0) root (length states) ((n, 0) ∷ stack)
+    → IsInTurn (λ l. from l 0) low (length states) order → Following from low root (set states n Open) order cycles ((n, 0) ∷ stack)
+opened_on from low root n cycles states order stack unseen ordered placed standing all_done stacked reached turn = record {
   ordered = same_order states order n unseen ordered;
   placed = subst (λ m. IsPlaced (λ l. from l 0) m cycles order) (sym (length-set states n Open)) placed;
   standing = λ k is_open. elim (same_or_not n k) [
@@ -269,6 +293,8 @@ opened_on from low root n cycles states order stack unseen ordered placed standi
   ];
   stacked = (record { led = tt; within = λ k h. h; followed = λ k h. ahead h }, stacked);
   done = λ k above under inside. stays_opened states n unseen k (all_done k above under (omega (arith, inside, length-set states n Open)));
+  reached = λ k h. let way = reached k h in (way.0, omega (arith, way.1, length-set states n Open));
+  in_turn = subst (λ m. IsInTurn (λ l. from l 0) low m order) (sym (length-set states n Open)) turn;
 }
 
 pub led_to_new : (from : ℕ → ℕ → List ℕ) (low root i at n behind : ℕ) (cycles : List ℕ) (states : List State) (order : List ℕ) (below : List (ℕ × ℕ))
@@ -278,10 +304,13 @@ led_to_new from low root i at n behind cycles states order below is unseen f =
     opened_on from low root n cycles states order ((i, behind) ∷ below) unseen f.ordered f.placed f.standing f.done (
       entry_on from states (set states n Open) cycles cycles (Some n) i at n behind g is led (next_up refl) f.stacked.0,
       stacked_still from states (set states n Open) cycles cycles (Some i) below g f.stacked.1,
-    )
+    ) (λ k h. elim h [ inl same ↦ subst (λ l. LeadsTo (λ j. from j 0) root l × (root < length states)) same next_too | inr rest ↦ f.reached k rest ]) f.in_turn
   where
     g : Grows states (set states n Open) cycles cycles
     g = record { stays = stays_opened states n unseen; len = length-set states n Open; grown = λ k h. h }
 
     led : Contains (from i 0) n
     led = f.stacked.0.within n (subst (λ xs. Contains xs n) (sym is) (Contains-append_left (n ∷ []) (from i behind) n (Contains-push [] n)))
+
+    next_too : LeadsTo (λ j. from j 0) root n × (root < length states)
+    next_too = let way = f.reached i (inl refl) in (through_last n way.0 led, way.1)

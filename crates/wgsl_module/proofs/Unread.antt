@@ -1,7 +1,7 @@
 -- What the grammar doesn't read has no expressions.
 use Rattle.std.proofs.Common.{◌≡◌, ◌∙◌, ◌<◌, ℕ, zero, suc, List, [], ◌∷◌, ◌++◌, ap, arith, length, map, slice_get, subst}
 use Rattle.std.proofs.lemmas.List.{map_push}
-use Rattle.wgsl_module.proofs.Behind.{fewer_behind}
+use Rattle.wgsl_module.proofs.Behind.{fewer_behind, fewer_in_turn}
 use Rattle.wgsl_module.proofs.Named.{called_after}
 use Rattle.wgsl_module.specs.Declarations.{Written, written}
 use Rattle.wgsl_module.specs.Directives.{Directs}
@@ -58,9 +58,10 @@ without_last cycles tokens ws x s r kind none is = (
   is.1,
   λ i above below. is.2 i above (within ws x i below),
   fewer_behind s.stack.context ws x cycles is.0 none is.3,
-  fewer tokens ws x is.0 s is.1 kind none is.4,
-  fewer_bodies tokens ws x is.1 r kind is.5,
-  λ name index first. is.6 name index (called_after s.stack.context.text s.stack.context.tokens ws x name index first),
+  fewer_in_turn s.stack.context ws x is.0 none (λ front i rest same below. is.4 front i rest same (within ws x i below)),
+  fewer tokens ws x is.0 s is.1 kind none is.5,
+  fewer_bodies tokens ws x is.1 r kind is.6,
+  λ name index first. is.7 name index (called_after s.stack.context.text s.stack.context.tokens ws x name index first),
 )
 
 pub misread_pushed : (cycles : List ℕ) (tokens : List Token) (all ds : List Declaration) (x : Declaration) (s r : State) → all ≡ ds ++ x ∷ [] → x.kind ≡ kinds.Misread

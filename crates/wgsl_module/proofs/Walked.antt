@@ -3,7 +3,7 @@ use Rattle.std.proofs.Common.{◌≡◌, ◌≢◌, ◌∙◌, ◌+◌, ◌<◌,
 use Rattle.std.proofs.lemmas.List.{map_push, reverse-append}
 use Rattle.std.proofs.lemmas.List.Elements.{Contains-append_left, Contains-push}
 use Rattle.std.proofs.lemmas.List.Sums.{sum_by_push}
-use Rattle.wgsl_module.specs.Order.{Begins, GoesOn, IsBehind, IsClosed, LeadsOn, begun}
+use Rattle.wgsl_module.specs.Order.{Begins, GoesOn, IsBehind, IsClosed, LeadsOn, LeadsTo, begun, itself}
 use Rattle.wgsl_module.specs.declared.walk.Order.{Order}
 use Rattle.wgsl_typing.specs.declared.fault.Place.{Place}
 use Rattle.wgsl_module.specs.declared.walk.State.{State}
@@ -123,6 +123,11 @@ moves index (Some n) s r goes = begun_moves n.0 (slice_get s.states.items n.0) s
 
 -- One root
 
+within : (states : List State) (k : ℕ) → slice_get states k ≡ Some Unseen → k < length states
+within [] k is = cc is
+within (s ∷ states) zero is = omega arith
+within (s ∷ states) (suc k) is = let rest = within states k is in omega (arith, rest)
+
 begins : (from : ℕ → ℕ → List ℕ) (low root : ℕ) (s r : Order) (o : Option State) → slice_get s.states.items root ≡ o → Begins o root s r → s.stack.items ≡ []
     → Kept from low root s → Kept from low root r × (slice_get r.states.items root ≢ Some Unseen) × (length r.states.items ≡ length s.states.items)
 begins from low root s r None is goes none f = (
@@ -143,7 +148,7 @@ begins from low root s r (Some Open) is goes none f = (
 begins from low root s r (Some Unseen) is goes none f =
     let empty = subst (λ st. Following from low root s.states.items s.indices.items (cycles_of s) st) (ap reverse none) f in (
       same_kept from low root _ _ _ _ r goes.0 (ap reverse goes.1 ∙ (top_first s.stack.items (root, 0) ∙ ap (λ st. (root, 0) ∷ reverse st) none)) goes.2 (ap (map (λ cycle. cycle.0)) goes.3)
-          (opened_on from low root root _ _ _ [] is empty.ordered empty.placed empty.standing empty.done tt),
+          (opened_on from low root root _ _ _ [] is empty.ordered empty.placed empty.standing empty.done tt (λ k h. elim h [ inl same ↦ (subst (λ l. LeadsTo (λ j. from j 0) root l) same (itself root), within s.states.items root is) | inr none ↦ absurd none ]) empty.in_turn),
       λ unseen. open_seen (sym (set_same s.states.items root Unseen Open is) ∙ (ap (λ x. slice_get x root) (sym goes.0) ∙ unseen)),
       ap length goes.0 ∙ length-set s.states.items root Open,
     )
@@ -170,6 +175,8 @@ root_done from low root cycles states order stack after none still seen f =
       stacked = tt;
       done = last_too low root states states (λ k h. h) refl (λ inside. all_done (slice_get states root) seen (λ is. empty.standing root is)
           (λ is. let past = none_outside states root is in omega (arith, inside, past))) f.done;
+      reached = λ k h. absurd h;
+      in_turn = f.in_turn;
     } in
     subst (λ st. Following from low (root + 1) states order cycles (reverse st)) (sym still) ended
 
@@ -186,6 +193,8 @@ none_yet from low n = record {
   standing = λ k is. absurd (none_open n k is);
   stacked = tt;
   done = λ k above under inside. absurd (omega (arith, above, under));
+  reached = λ k h. absurd h;
+  in_turn = λ front i rest is inside. absurd (no_more front rest i (sym is));
 }
   where
     none_open : (n k : ℕ) → slice_get (replicate n Unseen) k ≡ Some Open → ⊥

@@ -32,6 +32,11 @@ abbrev pub IsBehind : (ℕ → List ℕ) → List ℕ → List ℕ → Type 0
 IsBehind leads cycles order = (front : List ℕ) (index : ℕ) (rest : List ℕ) → order ≡ front ++ index ∷ rest
     → (other : ℕ) → Contains order other → Contains (leads index) other → Contains front other ⊎ (Contains cycles other × LeadsTo leads other index)
 
+-- in the order of the text: each from one on up to another is reached from the first of these that don't stand in front of it
+abbrev pub IsInTurn : (ℕ → List ℕ) → ℕ → ℕ → List ℕ → Type 0
+IsInTurn leads from to order = (front : List ℕ) (index : ℕ) (rest : List ℕ) → order ≡ front ++ index ∷ rest → index < to
+    → (root : ℕ) × LeadsTo leads root index × ((other : ℕ) → from ≤ other → other < root → Contains front other)
+
 -- those that lead back to themselves, and where
 abbrev pub cycling : List (ℕ × Place) → List ℕ
 cycling cycles = map (λ cycle. cycle.0) cycles

@@ -5,7 +5,7 @@ use Rattle.wgsl_module.specs.Blocks.{Binds, Closes, Opens, locals_in, with_block
 use Rattle.wgsl_module.specs.Directives.{Directs}
 use Rattle.wgsl_module.specs.Named.{first_called, is_colon, named_by}
 use Rattle.wgsl_module.specs.Noted.{Comes, DeclaresOverride, DeclaresResult, DeclaresValue, DeclaresVariable, Uses}
-use Rattle.wgsl_module.specs.Order.{HasEach, IsBehind}
+use Rattle.wgsl_module.specs.Order.{HasEach, IsBehind, IsInTurn}
 use Rattle.wgsl_module.specs.States.{Keeps, KeepsButStructs, State, cleared, with_meaning, with_names}
 use Rattle.wgsl_module.specs.declared.declaration.DeclarationKind.{DeclarationKind}
 use Rattle.wgsl_module.specs.declared.declaration.DeclarationKind.TheVariants as kinds
@@ -115,11 +115,12 @@ abbrev pub AreNamed : State → List Written → Type 0
 AreNamed s ds = (name : List ℕ) (index : ℕ) → first_called s.stack.context.text s.stack.context.tokens ds name ≡ Some index
     → index_of name s.stack.context.names ≡ Some index
 
--- its declarations, each once, behind those that it names, but for one of these cycles, and behind them the bodies of its functions,
--- in the order of the text
+-- its declarations, each once, in the order of the text but behind those that it names, except for one of these cycles, and behind them
+-- the bodies of its functions, in the order of the text
 abbrev pub IsModule : List ℕ → List Token → List Written → State → State → Type 0
 IsModule cycles tokens ds s r = (order : List ℕ) × (between : State) × HasEach 0 (length ds) order
-    × IsBehind (named_by s.stack.context ds) cycles order × AreDeclarations tokens ds order s between × AreBodies tokens ds between r × AreNamed s ds
+    × IsBehind (named_by s.stack.context ds) cycles order × IsInTurn (named_by s.stack.context ds) 0 (length ds) order
+    × AreDeclarations tokens ds order s between × AreBodies tokens ds between r × AreNamed s ds
 
 -- nothing is read of this text, which has these tokens: no function has names, and no extension is enabled
 abbrev pub IsUnread : List ℕ → List Token → State → Type 0

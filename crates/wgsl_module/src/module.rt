@@ -3,7 +3,7 @@ ghost use Rattle.std.specs.Prelude.{◌≡◌, ◌≢◌, ℕ, [], IfOk, List, f
 ghost use Rattle.wgsl_module.specs.Checked.{AreTyped, IsRead, TellsReading, are_known, told_of_reading};
 ghost use Rattle.wgsl_module.specs.Declarations.{written, written_in};
 ghost use Rattle.wgsl_module.specs.Named.{named_by};
-ghost use Rattle.wgsl_module.specs.Order.{HasEach, HaveNames, IsBehind, IsNamed, KeepNames, cycling, name_at};
+ghost use Rattle.wgsl_module.specs.Order.{HasEach, HaveNames, IsBehind, IsInTurn, IsNamed, KeepNames, cycling, name_at};
 ghost use Rattle.wgsl_module.specs.Recursion.{HasCallOrder, HasNoRecursion};
 ghost use Rattle.wgsl_module.specs.Runs.{AreDeclarations, AreNamed, HasParts, HasRuns, IsModule, ReadsFrom};
 ghost use Rattle.wgsl_module.specs.States.{Keeps, KeepsButNames, State, source, state};
@@ -265,6 +265,7 @@ impl<'t> Checker<'t> {
             × AreNamed before (map written self.old.declarations.items)
             × HasEach 0 (length (map written self.old.declarations.items)) order
             × IsBehind (named_by before.stack.context (map written self.old.declarations.items)) (cycling cycles.named.items) order
+            × IsInTurn (named_by before.stack.context (map written self.old.declarations.items)) 0 (length (map written self.old.declarations.items)) order
             × AreDeclarations tokens.now (map written self.old.declarations.items) order before (state self.new)) }
         ensures calls { IfOk result (λ cycles. HasCallOrder (cycling cycles.called.items) self.old.expressions.text.now self.old.expressions.tokens.now
             (map written self.old.declarations.items)) }

@@ -3,7 +3,7 @@ ghost use Rattle.std.specs.Prelude.{◌≡◌, ◌∷◌, [], ◌≤◌, IfOk, M
 ghost use Rattle.wgsl_module.specs.Called.{called_at, called_in, is_opening, opens_call};
 ghost use Rattle.wgsl_module.specs.Declarations.{written};
 ghost use Rattle.wgsl_module.specs.Named.{are_words, is_colon, is_own, named_at, named_from, used};
-ghost use Rattle.wgsl_module.specs.Order.{Begins, GoesOn, HasEach, IsBehind, IsClosed, cycling, leads_from, leads_of, naming_of};
+ghost use Rattle.wgsl_module.specs.Order.{Begins, GoesOn, HasEach, IsBehind, IsClosed, IsInTurn, cycling, leads_from, leads_of, naming_of};
 ghost use Rattle.wgsl_typing.specs.Words.{kind_of_any, word_at};
 
 use crate::attribute::attribute_named;
@@ -59,6 +59,7 @@ impl<'t> Checker<'t> {
     /// Follows the declarations from one index up to another.
     pub fn walk(&self, from: usize, to: usize, link: Link) -> Result<Walk, AllocError>
         ensures each { IfOk result (λ w. to ≤ length self.now.declarations.items → HasEach from to w.order.items) }
+        ensures in_turn { IfOk result (λ w. to ≤ length self.now.declarations.items → IsInTurn (leads_of self.now link) from to w.order.items) }
         ensures behind { IfOk result (λ w. IsBehind (leads_of self.now link) (cycling w.cycles.items) w.order.items) }
     {
         let alloc = self.expressions.alloc;

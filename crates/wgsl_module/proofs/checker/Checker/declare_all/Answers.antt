@@ -4,12 +4,12 @@ use Rattle.wgsl_module.specs.Called.{called_by}
 use Rattle.wgsl_module.specs.Declarations.{written}
 use Rattle.wgsl_module.specs.Named.{first_called, named_by, named_from, naming}
 use Rattle.wgsl_module.specs.States.{source, state}
-use Rattle.wgsl_module.specs.Order.{HasEach, IsBehind, cycling, leads_of}
+use Rattle.wgsl_module.specs.Order.{HasEach, IsBehind, IsInTurn, cycling, leads_of}
 use Rattle.wgsl_module.specs.Runs.{AreDeclarations}
 use Rattle.wgsl_module.specs.declared.checker.Checker.{Checker}
 use Rattle.wgsl_module.specs.declared.declaration.Declaration.{Declaration}
 use Rattle.wgsl_module.specs.declared.walk.Link.TheVariants as links
-use Rattle.wgsl_module.proofs.Behind.{all_named, same_behind}
+use Rattle.wgsl_module.proofs.Behind.{all_named, same_behind, same_in_turn}
 use Rattle.wgsl_module.proofs.Called.{all_called}
 use Rattle.wgsl_module.proofs.Runs.{names_alone}
 use Rattle.wgsl_module.proofs.checker.Checker.declare_all.Goals as goal
@@ -21,6 +21,9 @@ Read = List ℕ × List Token × List Declaration
 
 abbrev Behind : List ℕ → List ℕ → List Declaration → Read → Type 0
 Behind cycles order ds q = IsBehind (λ i. named_from (naming q.0 q.1 (map written ds)) (slice_get (map written ds) i) 0) cycles order
+
+abbrev InTurn : ℕ → List ℕ → List Declaration → Read → Type 0
+InTurn count order ds q = IsInTurn (λ i. named_from (naming q.0 q.1 (map written ds)) (slice_get (map written ds) i) 0) 0 count order
 
 -- all declarations are followed
 as_many : (s m : Checker) (n : ℕ) → source (state m) ≡ source (state s) → n ≡ length m.declarations.items
@@ -44,6 +47,8 @@ returns-clause-declarations c =
     let all = as_many c.args.self.now m c.len-count.result named (omega (arith, c.len-count.ensures)) in
     let behind = same_behind (leads_of m links.Name) (named_by (state m).stack.context (map written m.declarations.items)) cycles order
     (all_named m c.in_ok-name_all.ensures.names) c.in_ok-named.ensures.behind in
+    let turn = same_in_turn (leads_of m links.Name) (named_by (state m).stack.context (map written m.declarations.items)) 0 (length (map written ds)) order
+    (all_named m c.in_ok-name_all.ensures.names) (subst (λ n. IsInTurn (leads_of m links.Name) 0 n order) all.0 (c.in_ok-named.ensures.in_turn all.1)) in
     let declared = subst (λ (q : Read). AreDeclarations c.args.tokens.now (map written q.2) c.deref.result.now before end) read c.in_ok-declare_in.ensures.declarations in (
       before,
       order,
@@ -53,6 +58,7 @@ returns-clause-declarations c =
           ∙ (sym (ap (λ (q : Read). first_called q.0 q.1 (map written ds) name) read) ∙ first))),
       subst (λ n. HasEach 0 n order) all.0 (c.in_ok-named.ensures.each all.1),
       subst (Behind cycles order ds) (sym read) (subst (λ (q : Read). Behind cycles order q.2 q) named behind),
+      subst (InTurn (length (map written ds)) order ds) (sym read) (subst (λ (q : Read). InTurn (length (map written ds)) order q.2 q) named turn),
       subst (λ o. AreDeclarations c.args.tokens.now (map written ds) o before end) c.deref.ensures.value declared,
     )
 

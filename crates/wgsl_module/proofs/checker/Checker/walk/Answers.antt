@@ -1,4 +1,4 @@
-use Rattle.std.proofs.Common.{◌∙◌, ◌++◌, [], ap, refl, sym}
+use Rattle.std.proofs.Common.{◌∙◌, ◌++◌, [], ap, arith, refl, sym}
 use Rattle.wgsl_module.specs.Order.{leads_from}
 use Rattle.wgsl_module.proofs.Walked.{all_behind, begun_root, goes_on, less_work, moves, none_of, root_done, taken_off}
 use Rattle.wgsl_module.proofs.checker.Checker.walk.Goals as goal
@@ -33,3 +33,6 @@ loop-root-preserved c =
 
 pub returns-clause-behind : goal.returns-clause-behind
 returns-clause-behind c = all_behind (leads_from c.args.self.now c.args.link) c.args.from c.loop-root.root _ _ _ _ c.loop-root.invariant.0
+
+pub returns-clause-in_turn : goal.returns-clause-in_turn
+returns-clause-in_turn c = λ all front i rest is inside. c.loop-root.invariant.0.in_turn front i rest is (omega (arith, all, inside, c.loop-root.invariant.2))
