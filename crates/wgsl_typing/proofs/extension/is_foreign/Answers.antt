@@ -1,4 +1,4 @@
-use Rattle.std.proofs.Common.{◌∙◌, ◌||◌, Bool, ap, codes, nat_eq, sym}
+use Rattle.std.proofs.Common.{◌∙◌, ◌||◌, ap, codes, nat_eq, sym}
 use Rattle.std.proofs.lemmas.Str.Pattern.{starts_text}
 use Rattle.std.specs.List.{starts_with}
 use Rattle.wgsl_typing.proofs.extension.is_foreign.Goals as goal
