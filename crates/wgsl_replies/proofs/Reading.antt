@@ -4,6 +4,7 @@ use Rattle.wgsl_replies.proofs.Common.{Some, None, Result, IsErrAnd, codes, opti
 use Rattle.wgsl_replies.proofs.Common.{bytes_eq-Decides, Member, members_of, Fail, around, WgslType, scalar, struct, wrapped, scalar_named, long, Gives, Misses}
 use Rattle.wgsl_replies.proofs.Common.{Reader, Reads, Words, a_word, all, all_behind, all_within, alone, and_then, last, one, optional, pair, pure, times}
 use Rattle.wgsl_replies.proofs.Common.{in_layer, inside, layer_named, member_at, other_from, struct_at, type_at, type_from, cond, false_from_ne_true}
+use Rattle.std.proofs.Common.{IfSome}
 use Rattle.std.proofs.Math.Seq.{take-suc, take-suc-set}
 use Rattle.std.proofs.lemmas.Result.{err_from_is_err_and}
 use Rattle.wgsl_syntax.specs.declared.around.Around.{Around}
@@ -55,6 +56,14 @@ module _ (layer : Around) (words : Words) where
   pub scalar_in_layer : (w : List ℕ) (rest : Words) (s : Scalar) (t : WgslType) → a_word words ≡ Some (w, rest) → scalar_named w ≡ Some s → t ≡ around layer (scalar s) → in_layer layer type_at words ≡ Some (t, rest)
   unfolding type_from
   scalar_in_layer w rest s t e f is = opened_layer w rest e ∙ rw f (ap (λ u. Some (u, rest)) (sym is))
+
+pub scalar_found : (w : List ℕ) (words : Words) (s : Scalar) → scalar_named w ≡ Some s → type_from type_at w words ≡ Some (scalar s, words)
+unfolding type_from
+scalar_found w words s e = rw e refl
+
+pub scalar_is : (found : Option Scalar) (w : List ℕ) → found ≡ scalar_named w → IfSome found (λ s. scalar_named w ≡ Some s)
+scalar_is None w e = tt
+scalar_is (Some s) w e = sym e
 
 -- Layers
 

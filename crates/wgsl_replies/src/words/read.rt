@@ -7,7 +7,7 @@ ghost use Rattle.wgsl_replies.specs.words.Reader.{Gives, Reads, all, last, pair}
 use crate::words::layer::{read_layer, read_leaf};
 use crate::words::prelude::*;
 use wgsl_core::ty::StructMemberType;
-use wgsl_syntax::scalar::scalar_named;
+use wgsl_syntax::scalar::{Scalar, scalar_named};
 
 /// The type that the next words stand for.
 ///
@@ -83,23 +83,33 @@ fn read_layers(alloc: Global, outermost: Around, first: &str, words: &mut Words)
     let mut layers = [outermost; 4];
     let mut count = 1;
     let mut word = first;
-    while let Some(layer) = read_next(count, word, words)? {
+    let mut scalar = None;
+    while let Some(layer) = read_next(count, scalar, word, words)? {
         layers[count] = layer;
         count += 1;
         word = words.next(Wanted::Type)?;
+        scalar = scalar_named(word);
+    }
+    if let Some(scalar) = scalar {
+        return Ok(wrap(alloc, &layers[..count], Type::from(scalar))?);
     }
     let innermost = read_type_at(alloc, word, words)?;
     Ok(wrap(alloc, &layers[..count], innermost)?)
 }
 
-/// The layer that begins with this word; `None` if none does, or if there are 4 already.
+/// The layer that begins with this word; `None` if the word is a scalar or begins none, or if there are 4 already.
 #[inline(always)]
-fn read_next(count: usize, word: &str, words: &mut Words) -> Read<Option<Around>>
+fn read_next(
+    count: usize,
+    scalar: Option<Scalar>,
+    word: &str,
+    words: &mut Words,
+) -> Read<Option<Around>>
     ensures shorter { OnOk result (length words.new ≤ length words.old) }
     ensures room { IfOk result (λ layer. OnSome layer (count < 4)) }
     ensures read { ReadsNext word.now words.old words.new result }
 {
-    if count < 4 {
+    if count < 4 && scalar.is_none() {
         read_layer(word, words)
     } else {
         Ok(None)

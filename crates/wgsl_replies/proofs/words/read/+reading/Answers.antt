@@ -1,7 +1,7 @@
 use Rattle.wgsl_replies.proofs.Common.{◌≡◌, ◌+◌, ◌-◌, ◌<◌, Some, [], ◌∷◌, ◌++◌, map, refl, sym, ap, length-set, ◌∙◌, arith, rules, map-append, around, scalar}
-use Rattle.wgsl_replies.proofs.Common.{member_view, view, scalar_named, long, a_word, one, optional, layer_named, member_at, type_at, type_from}
+use Rattle.wgsl_replies.proofs.Common.{wrapped, member_view, view, scalar_named, long, a_word, one, optional, layer_named, member_at, type_at, type_from}
 use Rattle.wgsl_core.specs.declared.ty.Type.{the_lemmas}
-use Rattle.wgsl_replies.proofs.Reading.{in_layers, missed, next_layer, no_count, no_layer, no_members, not_opened, nothing_in_layer, nothing_inside, opened, opened_layer, reads_as, scalar_in_layer, struct_found, take_set, times_end, times_next, times_none, times_start}
+use Rattle.wgsl_replies.proofs.Reading.{in_layers, missed, next_layer, no_count, no_layer, no_members, not_opened, nothing_in_layer, nothing_inside, opened, opened_layer, reads_as, scalar_found, scalar_in_layer, scalar_is, struct_found, take_set, times_end, times_next, times_none, times_start}
 use Rattle.wgsl_replies.proofs.words.read.+reading.Goals as goal
 
 pub read_type-returns-in_err-word-clause-read : goal.read_type-returns-in_err-word-clause-read
@@ -27,7 +27,7 @@ read_inside-returns-in-None-clause-read t c =
     reads_as view _ _ _ _ (opened_layer c.args.outer c.args.words.now _ _ c.in_ok-word.ensures.read) c.read_layers.ensures.read
 
 pub read_layers-loop-layer-init : goal.read_layers-loop-layer-init
-read_layers-loop-layer-init t c = (search rules, omega arith, omega arith, refl, refl)
+read_layers-loop-layer-init t c = (search rules, omega arith, omega arith, refl, refl, tt)
 
 pub read_layers-returns-in_err-layer-clause-read : goal.read_layers-returns-in_err-layer-clause-read
 read_layers-returns-in_err-layer-clause-read t c =
@@ -40,6 +40,7 @@ read_layers-returns-in_err-word-clause-read t c =
     (λ none. c.loop-layer.invariant.4 ∙ nothing_inside _ _ _ _ _ found none)
 
 pub read_layers-loop-layer-preserved : goal.read_layers-loop-layer-preserved
+unfolding scalar_named
 read_layers-loop-layer-preserved t c =
     let room : c.loop-layer.count < 4 = search rules in
     let found : optional (layer_named c.loop-layer.word.now) c.loop-layer.words ≡ Some (Some c.in-Some.layer, c.read_next.new.words) = search rules in (
@@ -49,7 +50,16 @@ read_layers-loop-layer-preserved t c =
       simp length-set c.loop-layer.invariant.3,
       c.loop-layer.invariant.4 ∙ (next_layer _ _ _ _ _ found _ _ c.in_ok-word.ensures.read
           ∙ ap (λ ls. in_layers ls (type_from type_at c.in_ok-word.word.now c.next.new.self)) (sym (take_set c.loop-layer.layers c.loop-layer.count c.in-Some.layer (omega (arith, room, c.loop-layer.invariant.3))))),
+      scalar_is _ c.in_ok-word.word.now c.scalar_named-scalar.ensures,
     )
+
+pub read_layers-returns-in-Some-scalar-clause-read : goal.read_layers-returns-in-Some-scalar-clause-read
+read_layers-returns-in-Some-scalar-clause-read t c =
+    let same : c.read_next.new.words ≡ c.loop-layer.words = search rules in
+    let named : scalar_named c.loop-layer.word.now ≡ Some c.in-Some-scalar.scalar = search rules in
+    let inside : view c.from.result ≡ scalar c.in-Some-scalar.scalar = search rules in
+    c.loop-layer.invariant.4 ∙ (ap (in_layers _) (ap (type_from type_at c.loop-layer.word.now) (sym same) ∙ scalar_found c.loop-layer.word.now c.read_next.new.words c.in-Some-scalar.scalar named)
+        ∙ ap (λ t. Some (t, c.read_next.new.words)) (ap (wrapped _) (sym inside) ∙ sym c.in_ok-wrap.ensures))
 
 pub read_layers-returns-in_err-innermost-clause-read : goal.read_layers-returns-in_err-innermost-clause-read
 read_layers-returns-in_err-innermost-clause-read t c =
@@ -60,7 +70,7 @@ read_layers-returns-in_err-innermost-clause-read t c =
 pub read_layers-returns-clause-read : goal.read_layers-returns-clause-read
 read_layers-returns-clause-read t c =
     let same : c.read_next.new.words ≡ c.loop-layer.words = search rules in
-    c.loop-layer.invariant.4 ∙ (ap (in_layers _) (ap (type_from type_at c.loop-layer.word.now) (sym same) ∙ c.in_ok-innermost.ensures.read) ∙ ap (λ t. Some (t, c.read_type_at.new.words)) (sym c.in_ok-wrap.ensures))
+    c.loop-layer.invariant.4 ∙ (ap (in_layers _) (ap (type_from type_at c.loop-layer.word.now) (sym same) ∙ c.in_ok-innermost.ensures.read) ∙ ap (λ t. Some (t, c.read_type_at.new.words)) (sym c.in_ok-wrap-2.ensures))
 
 pub read_struct-returns-in_err-count-clause-read : goal.read_struct-returns-in_err-count-clause-read
 read_struct-returns-in_err-count-clause-read t c =

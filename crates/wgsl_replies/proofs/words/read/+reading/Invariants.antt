@@ -1,4 +1,5 @@
-use Rattle.wgsl_replies.proofs.Common.{◌≡◌, ◌<◌, ◌≤◌, ◌+◌, ◌-◌, ◌*◌, length, map, take, member_view, times, in_layer, member_at, type_at, type_from}
+use Rattle.wgsl_replies.proofs.Common.{◌≡◌, ◌<◌, ◌≤◌, ◌+◌, ◌-◌, ◌*◌, Some, length, map, take, member_view, scalar_named, times, in_layer, member_at, type_at, type_from}
+use Rattle.std.proofs.Common.{IfSome}
 use denote.Text.{Utf8}
 use denote.Shadow.{shadow}
 use Rattle.wgsl_replies.proofs.Reading.{in_front, in_layers}
@@ -36,6 +37,7 @@ abbrev pub invariant-read_layers-loop-layer : goal.invariant-read_layers-loop-la
 invariant-read_layers-loop-layer l =
     shadow (Utf8 l.word) × (length l.words ≤ length l.fn.words) × (l.count ≤ 4) × (length l.layers ≡ 4)
     × (in_layer l.fn.outermost (type_from type_at l.first) l.fn.words ≡ in_layers (take l.count l.layers) (type_from type_at l.word l.words))
+    × IfSome l.scalar (λ s. scalar_named l.word ≡ Some s)
 
 abbrev pub decreases-read_layers-loop-layer : goal.decreases-read_layers-loop-layer
 decreases-read_layers-loop-layer l = length l.words
