@@ -6,6 +6,7 @@ pub mod Checked
 pub mod Control
 pub mod Declarations
 pub mod Flow
+pub mod Meanings
 pub mod Named
 pub mod Noted
 pub mod Order
