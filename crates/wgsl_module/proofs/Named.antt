@@ -7,10 +7,12 @@ use Rattle.std.proofs.lemmas.List.{length-map}
 use Rattle.std.proofs.lemmas.Slice.Eq.{bytes_eq-Decides}
 use Rattle.wgsl_module.specs.Declarations.{Written, written}
 use Rattle.wgsl_module.specs.Named.{Naming, are_words, first_called, is_called, is_colon, is_own, named_at, named_in, used}
-use Rattle.wgsl_module.specs.States.{KeepsButNames, source, state}
+use Rattle.wgsl_module.specs.States.{KeepsButNames, State, source, state}
 use Rattle.wgsl_module.specs.Order.{HaveNames, IsNamed, name_at, unless_called}
+use Rattle.wgsl_module.specs.Runs.{as_unread}
 use Rattle.wgsl_module.specs.declared.checker.Checker.{Checker}
 use Rattle.wgsl_module.specs.declared.declaration.Declaration.{Declaration}
+use Rattle.wgsl_typing.specs.declared.expressions.Named.{Named}
 use Rattle.wgsl_typing.specs.StructNames.{index_of}
 use Rattle.wgsl_typing.specs.Words.{kind_of_any, word_at}
 use Rattle.wgsl_typing.proofs.Common.{Bor, Gives, btree_map_updates_str}
@@ -222,6 +224,33 @@ one_more_named s r index inside keeps names is name =
 pub all_have_names : (c : Checker) (index : ℕ) → length c.declarations.items ≤ index → HaveNames c (take index (map written c.declarations.items))
     → HaveNames c (map written c.declarations.items)
 all_have_names c index end names = subst (HaveNames c) (take_all index (map written c.declarations.items) (omega (arith, end, length-map c.declarations.items written))) names
+
+-- Where they are declared
+
+next_unread : (ds : List Declaration) (index : ℕ) → index < length ds → map as_unread (take (suc index) (map written ds))
+    ≡ map as_unread (take index (map written ds)) ++ (record { named = name_at ds index; known = None }) ∷ []
+next_unread [] index inside = absurd (omega (arith, inside))
+next_unread (d ∷ ds) zero inside = refl
+next_unread (d ∷ ds) (suc index) inside = ap (λ more. as_unread (written d) ∷ more) (next_unread ds index (omega (arith, inside)))
+
+pub one_more_unread : (s r : Checker) (index : ℕ) → index < length s.declarations.items → KeepsButNames (state s) (state r)
+    → s.expressions.declared.items ≡ map as_unread (take index (map written s.declarations.items)) → (named : Option ℕ) → named ≡ name_at s.declarations.items index
+    → r.expressions.declared.items ≡ s.expressions.declared.items ++ (record { named = named; known = None }) ∷ []
+    → r.expressions.declared.items ≡ map as_unread (take (index + 1) (map written r.declarations.items))
+one_more_unread s r index inside keeps are named name pushed =
+    let next : suc index ≡ index + 1 = omega arith in
+    let one : Option ℕ → List Named = λ n. (record { named = n; known = None }) ∷ [] in
+    let all : r.expressions.declared.items ≡ map as_unread (take (suc index) (map written s.declarations.items)) =
+    pushed ∙ (ap (λ n. s.expressions.declared.items ++ one n) name ∙ (ap (λ ns. ns ++ one (name_at s.declarations.items index)) are
+    ∙ sym (next_unread s.declarations.items index inside))) in
+    subst (λ (q : State). r.expressions.declared.items ≡ map as_unread (take (index + 1) (map written q.declarations))) (sym keeps)
+    (subst (λ k. r.expressions.declared.items ≡ map as_unread (take k (map written s.declarations.items))) next all)
+
+pub all_unread : (c : Checker) (index : ℕ) → length c.declarations.items ≤ index
+    → c.expressions.declared.items ≡ map as_unread (take index (map written c.declarations.items))
+    → c.expressions.declared.items ≡ map as_unread (map written c.declarations.items)
+all_unread c index end are =
+    subst (λ ws. c.expressions.declared.items ≡ map as_unread ws) (take_all index (map written c.declarations.items) (omega (arith, end, length-map c.declarations.items written))) are
 
 -- none has it
 pub name_given : (key : Bor (List ℕ)) (index : ℕ) (old new : Index) → Gives key (Some index) old new → index_of key.now old ≡ None

@@ -1,13 +1,11 @@
 -- Events, declarations and bodies one behind the other.
-use Rattle.std.proofs.Common.{◌≡◌, ◌∙◌, ◌+◌, ℕ, zero, suc, List, [], ◌∷◌, ◌++◌, ◌<◌, ap, arith, drop, get_or, length, map, option_map, refl, slice_get, subst, sym}
+use Rattle.std.proofs.Common.{◌≡◌, ◌∙◌, ◌+◌, ℕ, zero, suc, List, [], ◌∷◌, ◌++◌, ◌<◌, ap, arith, drop, get_or, length, map, option_map, slice_get, subst, sym}
 use Rattle.std.proofs.lemmas.Option.{slice_get-map}
 use Rattle.wgsl_module.specs.Noted.{Comes, Does}
 use Rattle.wgsl_module.specs.States.{KeepsButNames, State, with_names}
 use Rattle.wgsl_module.specs.Declarations.{Written, written}
 use Rattle.wgsl_module.specs.Runs.{AreBodies, AreDeclarations, AreParameters, IsBodyOf, IsDeclaration, IsParameterIf, is_parameter}
 use Rattle.wgsl_module.specs.declared.declaration.Declaration.{Declaration}
-use Rattle.wgsl_typing.specs.declared.expressions.Named.{Named}
-use Rattle.wgsl_typing.specs.Names.{known_of, with_known}
 use Rattle.wgsl_reader.specs.declared.kind.Kind.{Kind}
 use Rattle.wgsl_reader.specs.declared.read.Event.{Event}
 use Rattle.wgsl_reader.specs.declared.token.Token.{Token}
@@ -82,9 +80,3 @@ pub names_alone : (s m r : State) → KeepsButNames s m → KeepsButNames m r �
 names_alone s m r first second =
     let behind : State → State = λ q. record q { stack = with_names r.stack.context.names r.stack.context.declared q.stack } in
     second ∙ ap behind first
-
--- what stands for something already
-pub same_known : (index : ℕ) (declared : List Named) → declared ≡ with_known index (known_of declared index) declared
-same_known index [] = refl
-same_known zero (d ∷ declared) = refl
-same_known (suc index) (d ∷ declared) = ap (λ ds. d ∷ ds) (same_known index declared)

@@ -7,6 +7,7 @@ pub mod Control
 pub mod Declarations
 pub mod Directives
 pub mod Flow
+pub mod Meanings
 pub mod Named
 pub mod Noted
 pub mod Order

@@ -6,6 +6,7 @@ use Rattle.wgsl_module.specs.Declarations.{Written, written}
 use Rattle.wgsl_module.specs.Named.{Naming, first_called, is_called, named_from}
 use Rattle.wgsl_module.specs.declared.checker.Checker.{Checker}
 use Rattle.wgsl_module.specs.declared.declaration.Declaration.{Declaration}
+use Rattle.wgsl_typing.specs.declared.expressions.Named.{Named}
 use Rattle.wgsl_typing.specs.declared.fault.Place.{Place}
 use Rattle.wgsl_module.specs.declared.walk.Link.{Link}
 use Rattle.wgsl_module.specs.declared.walk.Link.TheVariants as links
@@ -71,6 +72,10 @@ unless_called is index found = found
 abbrev pub IsNamed : Checker → Option ℕ → ℕ → Checker → Type 0
 IsNamed s named index r = (name : List ℕ) → index_of name r.expressions.names
     ≡ unless_called (is_called s.expressions.text.now s.expressions.tokens.now name named) index (index_of name s.expressions.names)
+
+-- the same names are declared, and perhaps more behind them
+abbrev pub Continues : Checker → Checker → Type 0
+Continues s r = (more : List Named) × (r.expressions.declared.items ≡ s.expressions.declared.items ++ more)
 
 -- each name that stands for something goes on standing for that
 abbrev pub KeepNames : Checker → Checker → Type 0

@@ -1,23 +1,25 @@
 -- The expressions of a module, run by run: each run is that of the events of a declaration, or of a function's body.
-use Rattle.std.specs.Prelude.{◌≡◌, ℕ, List, [], ◌∷◌, Bool, true, false, Option, Some, None, length, map, slice_get}
+use Rattle.std.specs.Prelude.{◌≡◌, ℕ, List, [], ◌∷◌, ◌++◌, Bool, true, false, Option, Some, None, length, map, slice_get}
 use Rattle.wgsl_module.specs.Declarations.{Written, written_in}
 use Rattle.wgsl_module.specs.Blocks.{Binds, Closes, Opens, locals_in, with_blocks, with_locals, with_loops, with_skipped}
 use Rattle.wgsl_module.specs.Directives.{Directs}
+use Rattle.wgsl_module.specs.Meanings.{Ends}
 use Rattle.wgsl_module.specs.Named.{first_called, is_colon, named_by}
-use Rattle.wgsl_module.specs.Noted.{Comes, DeclaresOverride, DeclaresResult, DeclaresValue, DeclaresVariable, Uses}
+use Rattle.wgsl_module.specs.Noted.{Comes}
 use Rattle.wgsl_module.specs.Order.{HasEach, IsBehind, IsInTurn}
-use Rattle.wgsl_module.specs.States.{Keeps, KeepsButStructs, State, cleared, with_meaning, with_names}
+use Rattle.wgsl_module.specs.States.{Keeps, State, cleared, with_meaning, with_names}
 use Rattle.wgsl_module.specs.declared.declaration.DeclarationKind.{DeclarationKind}
 use Rattle.wgsl_module.specs.declared.declaration.DeclarationKind.TheVariants as kinds
+use Rattle.wgsl_typing.specs.declared.expressions.Named.{Named}
 use Rattle.wgsl_typing.specs.declared.fault.Fault.{Fault}
 use Rattle.wgsl_typing.specs.declared.known.Known.{Known}
+use Rattle.wgsl_typing.specs.declared.known.Known.TheVariants.{Faulty}
 use Rattle.wgsl_typing.specs.declared.known.Part.{Part}
 use Rattle.wgsl_typing.specs.declared.known.Typed.{Typed}
 use Rattle.wgsl_typing.specs.Extensions.{none_enabled}
 use Rattle.wgsl_typing.specs.Scopes.{scope_view}
 use Rattle.wgsl_typing.specs.StructNames.{index_of}
 use Rattle.wgsl_typing.specs.Words.{kind_of_any}
-use Rattle.wgsl_standard.specs.declared.forms.declare.Declaration.TheVariants.{Const}
 use Rattle.wgsl_reader.specs.Modules.{ReadsModule}
 use Rattle.wgsl_reader.specs.Reading.{kind_of}
 use Rattle.wgsl_reader.specs.declared.mark.Mark.{Mark}
@@ -28,28 +30,18 @@ use Rattle.wgsl_reader.specs.declared.token.Token.{Token}
 
 -- Declarations
 
--- What a declaration takes at its end. The parts of structs and functions are taken in front of it, one by one; the members that a
--- struct has from then on aren't said here.
-abbrev pub Ends : DeclarationKind → State → State → Type 0
-Ends kinds.Const s r = (named : ℕ) × (typed : Option Typed) × DeclaresValue Const named typed s r
-Ends kinds.Override s r = DeclaresOverride s r
-Ends kinds.Variable s r = DeclaresVariable s r
-Ends kinds.Alias s r = DeclaresResult s r
-Ends kinds.Assertion s r = Uses s r
-Ends kinds.Struct s r = KeepsButStructs s r
-Ends other s r = Keeps s r
+-- what comes of the events of a declaration, of a directive and of its end, and what its name stands for
+abbrev pub Declares : List Token → DeclarationKind → List Event → Known → State → State → Type 0
+Declares tokens kind events known s r = (first : State) × (last : State) × Directs kind events s first × Comes tokens events first last × Ends kind known last r
 
--- what comes of the events of a declaration, of a directive and of its end
-abbrev pub Declares : List Token → DeclarationKind → List Event → State → State → Type 0
-Declares tokens kind events s r = (first : State) × (last : State) × Directs kind events s first × Comes tokens events first last × Ends kind last r
+-- What the grammar doesn't read is faulty.
+abbrev pub DeclaresIf : List Token → Option Written → Known → State → State → Type 0
+DeclaresIf tokens (Some d) known s r = Declares tokens d.kind d.events known s r
+DeclaresIf tokens None known s r = Keeps s r × (known ≡ Faulty)
 
-abbrev pub DeclaresIf : List Token → Option Written → State → State → Type 0
-DeclaresIf tokens (Some d) s r = Declares tokens d.kind d.events s r
-DeclaresIf tokens None s r = Keeps s r
-
--- The one with an index is read from an empty stack on. Its name stands for something from then on: for what isn't said here.
+-- The one with an index is read from an empty stack on. Its name stands for that from then on.
 abbrev pub IsDeclaration : List Token → ℕ → Option Written → State → State → Type 0
-IsDeclaration tokens index d s r = (end : State) × (known : Option Known) × DeclaresIf tokens d (cleared s) end × (r ≡ with_meaning index known end)
+IsDeclaration tokens index d s r = (end : State) × (known : Known) × DeclaresIf tokens d known (cleared s) end × (r ≡ with_meaning index (Some known) end)
 
 -- what comes of the declarations with these indices, one behind the other
 abbrev pub AreDeclarations : List Token → List Written → List ℕ → State → State → Type 0
@@ -115,12 +107,20 @@ abbrev pub AreNamed : State → List Written → Type 0
 AreNamed s ds = (name : List ℕ) (index : ℕ) → first_called s.stack.context.text s.stack.context.tokens ds name ≡ Some index
     → index_of name s.stack.context.names ≡ Some index
 
+-- It is known where each is declared, and not yet what it stands for. Behind them stand others, which aren't said here.
+abbrev pub as_unread : Written → Named
+as_unread d = record { named = d.named; known = None }
+
+abbrev pub AreUnread : State → List Written → Type 0
+AreUnread s ds = (more : List Named) × (s.stack.context.declared ≡ map as_unread ds ++ more)
+
 -- its declarations, each once, in the order of the text but behind those that it names, except for one of these cycles, and behind them
 -- the bodies of its functions, in the order of the text
 abbrev pub IsModule : List ℕ → List Token → List Written → State → State → Type 0
 IsModule cycles tokens ds s r = (order : List ℕ) × (between : State) × HasEach 0 (length ds) order
     × IsBehind (named_by s.stack.context ds) cycles order × IsInTurn (named_by s.stack.context ds) 0 (length ds) order
     × AreDeclarations tokens ds order s between × AreBodies tokens ds between r × AreNamed s ds
+    × AreUnread s ds
 
 -- nothing is read of this text, which has these tokens: no function has names, and no extension is enabled
 abbrev pub IsUnread : List ℕ → List Token → State → Type 0

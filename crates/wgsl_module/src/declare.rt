@@ -2,14 +2,16 @@
 ghost use Rattle.std.specs.Prelude.{◌≡◌, ◌∷◌, [], IfOk, map, option_map, slice_get};
 ghost use Rattle.wgsl_module.specs.Declarations.{written};
 ghost use Rattle.wgsl_module.specs.Directives.{Directs};
+ghost use Rattle.wgsl_module.specs.Meanings.{Ends, EndsAlias, EndsConst, EndsFunction, EndsOverride, EndsStruct, EndsVariable, as_type, as_value};
 ghost use Rattle.wgsl_module.specs.Noted.{Comes};
-ghost use Rattle.wgsl_module.specs.Runs.{AreDeclarations, Declares, Ends, IsDeclaration};
-ghost use Rattle.wgsl_module.specs.States.{Keeps, KeepsButStructs, source, state};
+ghost use Rattle.wgsl_module.specs.Runs.{AreDeclarations, Declares, DeclaresIf, IsDeclaration};
+ghost use Rattle.wgsl_module.specs.States.{Keeps, source, state};
 
 use crate::attribute::{Attributes, Owner};
 use crate::checker::{Checker, Interface};
 use crate::declaration::{Declaration, DeclarationKind};
 use std::alloc::AllocError;
+use wgsl_core::ty::Type;
 use wgsl_reader::mark::Mark;
 use wgsl_reader::read::Event;
 use wgsl_reader::token::Token;
@@ -37,12 +39,20 @@ impl<'t> Checker<'t> {
         ensures source { IfOk result (λ u. source (state self.new) ≡ source (state self.old)) }
     {
         self.clear();
-        let Some(declaration) = self.declaration(index) else {
-            return Ok(());
-        };
-        let known = self.read_declaration(tokens, index, declaration)?;
+        let known = self.read_at(tokens, index)?;
         self.expressions.put_known(index, Some(known));
         Ok(())
+    }
+
+    /// Reads the declaration with an index, if there is one. Returns what its name stands for.
+    fn read_at(&mut self, tokens: &[Token], index: usize) -> Result<Known, AllocError>
+        ensures declaration { IfOk result (λ known. DeclaresIf tokens.now (option_map written (slice_get self.old.declarations.items index)) known (state self.old) (state self.new)) }
+        ensures source { IfOk result (λ known. source (state self.new) ≡ source (state self.old)) }
+    {
+        let Some(declaration) = self.declaration(index) else {
+            return Ok(Known::Faulty);
+        };
+        self.read_declaration(tokens, index, declaration)
     }
 
     /// Directives enable extensions, and filter diagnostics together: the attributes of others filter on their own.
@@ -99,8 +109,8 @@ impl<'t> Checker<'t> {
         index: usize,
         declaration: Declaration<'t>,
     ) -> Result<Known, AllocError>
-        ensures declaration { IfOk result (λ k. Declares tokens.now declaration.entry.kind declaration.entry.events.now (state self.old) (state self.new)) }
-        ensures source { IfOk result (λ k. source (state self.new) ≡ source (state self.old)) }
+        ensures declaration { IfOk result (λ known. Declares tokens.now declaration.entry.kind declaration.entry.events.now known (state self.old) (state self.new)) }
+        ensures source { IfOk result (λ known. source (state self.new) ≡ source (state self.old)) }
     {
         self.begin_declaration(declaration)?;
         let attributes = self.read_events(tokens, declaration)?;
@@ -147,27 +157,15 @@ impl<'t> Checker<'t> {
         declaration: Declaration<'t>,
         attributes: Attributes,
     ) -> Result<Known, AllocError>
-        ensures taken { IfOk result (λ k. Ends declaration.entry.kind (state self.old) (state self.new)) }
-        ensures source { IfOk result (λ k. source (state self.new) ≡ source (state self.old)) }
+        ensures taken { IfOk result (λ known. Ends declaration.entry.kind known (state self.old) (state self.new)) }
+        ensures source { IfOk result (λ known. source (state self.new) ≡ source (state self.old)) }
     {
         let named = declaration.named.unwrap_or(0);
         match declaration.kind {
-            DeclarationKind::Const => {
-                let (_, value) = self.read_value(Form::Const)?;
-                Ok(known_value(value, attributes))
-            }
-            DeclarationKind::Override => {
-                let value = self.read_override(named, attributes)?;
-                Ok(known_value(value, attributes))
-            }
-            DeclarationKind::Variable => {
-                let value = self.read_global(named, attributes)?;
-                Ok(known_value(value, attributes))
-            }
-            DeclarationKind::Alias => match self.expressions.take_type()? {
-                (_, Some(ty)) => Ok(Known::Type(ty)),
-                (_, None) => Ok(Known::Faulty),
-            },
+            DeclarationKind::Const => self.end_const(),
+            DeclarationKind::Override => self.end_override(named, attributes),
+            DeclarationKind::Variable => self.end_variable(named, attributes),
+            DeclarationKind::Alias => self.end_alias(),
             DeclarationKind::Assertion => {
                 self.assert()?;
                 Ok(Known::Faulty)
@@ -180,9 +178,46 @@ impl<'t> Checker<'t> {
         }
     }
 
+    /// `const x: T = y;`
+    fn end_const(&mut self) -> Result<Known, AllocError>
+        ensures taken { IfOk result (λ known. EndsConst known (state self.old) (state self.new)) }
+        ensures source { IfOk result (λ known. source (state self.new) ≡ source (state self.old)) }
+    {
+        let (_, typed) = self.read_value(Form::Const)?;
+        Ok(known_value(typed))
+    }
+
+    /// `override x: T = y;`
+    fn end_override(&mut self, named: usize, attributes: Attributes) -> Result<Known, AllocError>
+        ensures taken { IfOk result (λ known. EndsOverride known (state self.old) (state self.new)) }
+        ensures source { IfOk result (λ known. source (state self.new) ≡ source (state self.old)) }
+    {
+        let typed = self.read_override(named, attributes)?;
+        Ok(known_value(typed))
+    }
+
+    /// `var<private> x: T = y;`
+    fn end_variable(&mut self, named: usize, attributes: Attributes) -> Result<Known, AllocError>
+        ensures taken { IfOk result (λ known. EndsVariable known (state self.old) (state self.new)) }
+        ensures source { IfOk result (λ known. source (state self.new) ≡ source (state self.old)) }
+    {
+        let typed = self.read_global(named, attributes)?;
+        Ok(known_value(typed))
+    }
+
+    /// `alias A = T;`
+    fn end_alias(&mut self) -> Result<Known, AllocError>
+        ensures taken { IfOk result (λ known. EndsAlias known (state self.old) (state self.new)) }
+        ensures source { IfOk result (λ known. source (state self.new) ≡ source (state self.old)) }
+    {
+        let (_, ty) = self.expressions.take_type()?;
+        Ok(known_type(ty))
+    }
+
     /// What a struct with the members that are read stands for.
     fn read_struct(&mut self, index: usize, named: usize) -> Result<Known, AllocError>
-        ensures { KeepsButStructs (state self.old) (state self.new) }
+        ensures taken { IfOk result (λ known. EndsStruct known (state self.old) (state self.new)) }
+        ensures source { IfOk result (λ known. source (state self.new) ≡ source (state self.old)) }
     {
         let Some(interface) = self.interface.take() else {
             return Ok(Known::Faulty);
@@ -194,7 +229,8 @@ impl<'t> Checker<'t> {
 
     /// What a function with the parameters and the result that are read stands for.
     fn read_function(&mut self, index: usize, named: usize) -> Result<Known, AllocError>
-        ensures { Keeps (state self.old) (state self.new) }
+        ensures taken { IfOk result (λ known. EndsFunction known (state self.old) (state self.new)) }
+        ensures source { IfOk result (λ known. source (state self.new) ≡ source (state self.old)) }
     {
         let Some(interface) = self.interface.take() else {
             return Ok(Known::Faulty);
@@ -205,10 +241,22 @@ impl<'t> Checker<'t> {
     }
 }
 
-/// A value, if neither it nor an attribute has a fault.
-fn known_value(value: Option<Typed>, attributes: Attributes) -> Known {
-    match value {
-        Some(typed) if attributes.are_fine => Known::Value(typed),
-        _ => Known::Faulty,
+/// A value; faulty if it has a fault.
+fn known_value(typed: Option<Typed>) -> Known
+    ensures { result ≡ as_value typed }
+{
+    match typed {
+        Some(typed) => Known::Value(typed),
+        None => Known::Faulty,
+    }
+}
+
+/// A type; faulty if it has a fault.
+fn known_type(ty: Option<Type>) -> Known
+    ensures { result ≡ as_type ty }
+{
+    match ty {
+        Some(ty) => Known::Type(ty),
+        None => Known::Faulty,
     }
 }

@@ -1,5 +1,6 @@
 // Members of structs, parameters and results of functions.
-ghost use Rattle.std.specs.Prelude.{IfOk};
+ghost use Rattle.std.specs.Prelude.{◌≡◌, IfOk, true};
+ghost use Rattle.wgsl_module.specs.Meanings.{is_function_or_faulty, is_type_or_faulty};
 ghost use Rattle.wgsl_module.specs.Noted.{DeclaresField, DeclaresResult};
 ghost use Rattle.wgsl_module.specs.States.{Keeps, KeepsButStructs, state};
 
@@ -85,7 +86,8 @@ impl<'t> Checker<'t> {
 
     /// What a struct with these members stands for.
     pub fn structure(&mut self, named: usize, fields: &[Field]) -> Result<Known, AllocError>
-        ensures { KeepsButStructs (state self.old) (state self.new) }
+        ensures known { IfOk result (λ known. is_type_or_faulty known ≡ true) }
+        ensures state { KeepsButStructs (state self.old) (state self.new) }
     {
         let names = self.names_of(fields)?;
         let mut members = Vec::new(self.expressions.alloc);
@@ -167,7 +169,8 @@ impl<'t> Checker<'t> {
         whole: StructType,
         members: BTreeMap<&'t str, usize>,
     ) -> Result<Known, AllocError>
-        ensures { KeepsButStructs (state self.old) (state self.new) }
+        ensures known { IfOk result (λ known. is_type_or_faulty known ≡ true) }
+        ensures state { KeepsButStructs (state self.old) (state self.new) }
     {
         let made = short(self.expressions.alloc, &whole)?;
         let (mut has_long_array, mut is_sized, mut depth) = (false, true, 0);
@@ -296,7 +299,8 @@ impl<'t> Checker<'t> {
 
     /// What a function with these parameters and this result stands for.
     pub fn signature(&mut self, named: usize, interface: &Interface) -> Result<Known, AllocError>
-        ensures { Keeps (state self.old) (state self.new) }
+        ensures known { IfOk result (λ known. is_function_or_faulty known ≡ true) }
+        ensures state { Keeps (state self.old) (state self.new) }
     {
         let attributes = interface.attributes;
         let result = match &interface.result {

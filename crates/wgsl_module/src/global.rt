@@ -1,10 +1,13 @@
 // Overrides and variables of a module (WGSL, "Value Declarations", "Variable Declarations"), and the numbers that tell them apart.
-ghost use Rattle.std.specs.Prelude.{IfOk};
+ghost use Rattle.std.specs.Prelude.{◌≡◌, ◌≢◌, IfOk, None, Some, option_map};
+ghost use Rattle.wgsl_module.specs.Meanings.{IsGlobal, IsGlobalOn, IsOverride, IsOverrideOn, IsUnset, space_of};
 ghost use Rattle.wgsl_module.specs.Noted.{DeclaresOverride, DeclaresVariable};
 ghost use Rattle.wgsl_module.specs.States.{Keeps, state};
+ghost use Rattle.wgsl_typing.specs.Declarations.{IsVariable};
 
 use crate::attribute::{Attributes, Name};
 use crate::checker::Checker;
+use crate::local::if_held;
 use std::alloc::AllocError;
 use wgsl_standard::forms::declare::{Declaration as Form, override_without_value};
 use wgsl_standard::forms::variable::holds;
@@ -26,20 +29,34 @@ impl<'t> Checker<'t> {
         named: usize,
         attributes: Attributes,
     ) -> Result<Option<Typed>, AllocError>
-        ensures { IfOk result (λ x. DeclaresOverride (state self.old) (state self.new)) }
+        ensures value { IfOk result (IsOverrideOn (state self.old).stack.items) }
+        ensures rest { IfOk result (λ typed. DeclaresOverride (state self.old) (state self.new)) }
     {
         let part = self.expressions.take_initializer()?;
         let declared = self.expressions.take_declared()?;
         self.expressions.take_name();
         self.check_id(named, attributes)?;
-        let Some(part) = part else {
-            return self.override_without_value(named, &declared);
-        };
-        let typed = self
-            .expressions
-            .typed_value(Form::Override, &part, &declared)?;
-        self.expressions.note(part)?;
-        Ok(typed)
+        let typed = self.typed_override(named, part.as_ref(), &declared)?;
+        if let Some(part) = part {
+            self.expressions.note(part)?;
+        }
+        Ok(if_held(attributes.are_fine, typed))
+    }
+
+    /// What an override is, if it has no fault.
+    fn typed_override(
+        &mut self,
+        named: usize,
+        part: Option<&Part>,
+        declared: &Declared,
+    ) -> Result<Option<Typed>, AllocError>
+        ensures value { IfOk result (IsOverride (option_map (λ p. p.now.outcome) part.entry) declared.now) }
+        ensures state { Keeps (state self.old) (state self.new) }
+    {
+        match part {
+            Some(part) => self.expressions.typed_value(Form::Override, part, declared),
+            None => self.override_without_value(named, declared),
+        }
     }
 
     /// `var<private> x: T = y;` of a module.
@@ -48,7 +65,8 @@ impl<'t> Checker<'t> {
         named: usize,
         attributes: Attributes,
     ) -> Result<Option<Typed>, AllocError>
-        ensures { IfOk result (λ x. DeclaresVariable (state self.old) (state self.new)) }
+        ensures variable { IfOk result (IsGlobalOn (state self.old).stack.items) }
+        ensures rest { IfOk result (λ typed. DeclaresVariable (state self.old) (state self.new)) }
     {
         let part = self.expressions.take_initializer()?;
         let declared = self.expressions.take_declared()?;
@@ -82,17 +100,21 @@ impl<'t> Checker<'t> {
         named: usize,
         declared: &Declared,
     ) -> Result<Option<Typed>, AllocError>
-        ensures { Keeps (state self.old) (state self.new) }
+        ensures value { IfOk result (IsUnset declared.now) }
+        ensures state { Keeps (state self.old) (state self.new) }
     {
         match declared {
-            Declared::Type(ty) => {
-                let refusal = override_without_value(ty).err();
-                if !self.expressions.allows(Place::last_of(named), refusal)? {
-                    return Ok(None);
+            Declared::Type(ty) => match override_without_value(ty) {
+                Ok(ty) => {
+                    let ty = ty.build(self.expressions.alloc)?;
+                    Ok(Some(Typed::of(ty, Stage::Override)))
                 }
-                let ty = ty.clone(self.expressions.alloc)?;
-                Ok(Some(Typed::of(ty, Stage::Override)))
-            }
+                Err(refusal) => {
+                    self.expressions
+                        .allows(Place::last_of(named), Some(refusal))?;
+                    Ok(None)
+                }
+            },
             Declared::No => {
                 self.expressions
                     .nothing(Rule::Type, named, "needs a type or a value")
@@ -102,6 +124,7 @@ impl<'t> Checker<'t> {
     }
 
     /// The variable in this address space, or in what stands in its place; None if that is told or has a fault.
+    #[tactic(auto, using(crate::proofs::Variables::no_global, crate::proofs::Variables::in_module))]
     fn variable_in(
         &mut self,
         space: Option<Space>,
@@ -110,7 +133,8 @@ impl<'t> Checker<'t> {
         declared: &Declared,
         attributes: Attributes,
     ) -> Result<Option<Typed>, AllocError>
-        ensures { Keeps (state self.old) (state self.new) }
+        ensures variable { IfOk result (IsGlobal (space_of space) (option_map (λ p. p.now.outcome) part.entry) declared.now) }
+        ensures state { Keeps (state self.old) (state self.new) }
     {
         let (space, access) = match space {
             Some(Some(space)) => space,
@@ -118,17 +142,33 @@ impl<'t> Checker<'t> {
             None if self.may_be_handle(named, part, declared)? => (AddressSpace::Handle, None),
             None => return Ok(None),
         };
-        if let Some(message) = wrong_space(space, access) {
-            return self.expressions.nothing(Rule::Type, named, message);
+        match wrong_space(space, access) {
+            Some(message) => self.expressions.nothing(Rule::Type, named, message),
+            None => self.global(space, access, named, part, declared, attributes),
         }
+    }
+
+    /// The variable in an address space of the module; None if that is told or has a fault.
+    fn global(
+        &mut self,
+        space: AddressSpace,
+        access: Option<AccessMode>,
+        named: usize,
+        part: Option<&Part>,
+        declared: &Declared,
+        attributes: Attributes,
+    ) -> Result<Option<Typed>, AllocError>
+        ensures variable { IfOk result (IsVariable space access (option_map (λ p. p.now.outcome) part.entry) declared.now) }
+        ensures state { Keeps (state self.old) (state self.new) }
+    {
         let typed = self
             .expressions
             .variable(space, access, named, part, declared)?;
-        let Some(typed) = typed else {
-            return Ok(None);
+        let is_placed = match &typed {
+            Some(typed) => self.is_placed(space, named, typed, attributes)?,
+            None => false,
         };
-        let is_placed = self.is_placed(space, named, &typed, attributes)?;
-        Ok(if is_placed { Some(typed) } else { None })
+        Ok(if_held(is_placed, typed))
     }
 
     /// Whether a variable may lie in its address space, and has the attributes of one there.
@@ -218,7 +258,9 @@ impl<'t> Checker<'t> {
 }
 
 /// What is wrong with the address space of a variable of a module, and with its access mode.
-fn wrong_space(space: AddressSpace, access: Option<AccessMode>) -> Option<&'static str> {
+fn wrong_space(space: AddressSpace, access: Option<AccessMode>) -> Option<&'static str>
+    ensures { result ≡ None → space ≢ AddressSpace.Function }
+{
     if space == AddressSpace::Function {
         Some("is in the module, and so not in `function`")
     } else if access.is_some() && space != AddressSpace::Storage {

@@ -23,6 +23,7 @@ mod interface;
 mod local;
 mod misread;
 pub mod module;
+mod names;
 mod statement;
 mod step;
 mod switch;

@@ -118,7 +118,7 @@ impl<'t> Checker<'t> {
     }
 }
 
-fn if_held(is_held: bool, typed: Option<Typed>) -> Option<Typed>
+pub fn if_held(is_held: bool, typed: Option<Typed>) -> Option<Typed>
     ensures { result ≡ cond is_held typed None }
 {
     if is_held { typed } else { None }

@@ -3,9 +3,9 @@ ghost use Rattle.std.specs.Prelude.{◌≡◌, ◌≢◌, ℕ, [], IfOk, List, f
 ghost use Rattle.wgsl_module.specs.Checked.{AreTyped, IsRead, TellsReading, are_known, told_of_reading};
 ghost use Rattle.wgsl_module.specs.Declarations.{written, written_in};
 ghost use Rattle.wgsl_module.specs.Named.{named_by};
-ghost use Rattle.wgsl_module.specs.Order.{HasEach, HaveNames, IsBehind, IsInTurn, IsNamed, KeepNames, cycling, name_at};
+ghost use Rattle.wgsl_module.specs.Order.{HasEach, IsBehind, IsInTurn, cycling, name_at};
 ghost use Rattle.wgsl_module.specs.Recursion.{HasCallOrder, HasNoRecursion};
-ghost use Rattle.wgsl_module.specs.Runs.{AreDeclarations, AreNamed, HasParts, HasRuns, IsModule, ReadsFrom};
+ghost use Rattle.wgsl_module.specs.Runs.{AreDeclarations, AreNamed, AreUnread, HasParts, HasRuns, IsModule, ReadsFrom};
 ghost use Rattle.wgsl_module.specs.States.{Keeps, KeepsButNames, State, source, state};
 ghost use Rattle.wgsl_module.specs.Told.{AreTold, broken};
 ghost use Rattle.wgsl_reader.specs.declared.token.Token.{Token};
@@ -266,7 +266,8 @@ impl<'t> Checker<'t> {
             × HasEach 0 (length (map written self.old.declarations.items)) order
             × IsBehind (named_by before.stack.context (map written self.old.declarations.items)) (cycling cycles.named.items) order
             × IsInTurn (named_by before.stack.context (map written self.old.declarations.items)) 0 (length (map written self.old.declarations.items)) order
-            × AreDeclarations tokens.now (map written self.old.declarations.items) order before (state self.new)) }
+            × AreDeclarations tokens.now (map written self.old.declarations.items) order before (state self.new)
+            × AreUnread before (map written self.old.declarations.items)) }
         ensures calls { IfOk result (λ cycles. HasCallOrder (cycling cycles.called.items) self.old.expressions.text.now self.old.expressions.tokens.now
             (map written self.old.declarations.items)) }
         ensures source { IfOk result (λ u. source (state self.new) ≡ source (state self.old)) }
@@ -281,17 +282,6 @@ impl<'t> Checker<'t> {
             named: named.cycles,
             called: called.cycles,
         })
-    }
-
-    /// Gives these names their meanings, unless they have others.
-    fn give_all(&mut self, given: Vec<(&'t str, Known)>) -> Result<(), AllocError>
-        ensures state { KeepsButNames (state self.old) (state self.new) }
-        ensures names { KeepNames self.old self.new }
-    {
-        for (name, known) in given {
-            self.give(name, known)?;
-        }
-        Ok(())
     }
 
     /// Says which functions call themselves.
@@ -329,7 +319,7 @@ impl<'t> Checker<'t> {
     }
 
     /// Adds to the last fault where a declaration is.
-    fn refer(&mut self, index: usize) -> Result<(), AllocError>
+    pub fn refer(&mut self, index: usize) -> Result<(), AllocError>
         ensures state { state self.new ≡ state self.old }
         ensures faults { length self.new.expressions.faults.items ≡ length self.old.expressions.faults.items }
     {
@@ -337,61 +327,5 @@ impl<'t> Checker<'t> {
             Some(named) => self.expressions.refer(named),
             None => Ok(()),
         }
-    }
-
-    /// Gives the declarations their names.
-    fn name_all(&mut self) -> Result<(), AllocError>
-        ensures state { KeepsButNames (state self.old) (state self.new) }
-        ensures names { IfOk result (λ u. HaveNames self.new (map written self.new.declarations.items)) }
-    {
-        self.expressions.names.clear();
-        for index in 0..self.declarations.len() {
-            let named = self.named(index);
-            self.expressions
-                .declared
-                .push(Named { named, known: None })?;
-            self.interfaces.push(None)?;
-            self.doings.push(None)?;
-            self.name(index)?;
-        }
-        Ok(())
-    }
-
-    /// Gives a declaration its name. If another one has it, that one keeps it.
-    fn name(&mut self, index: usize) -> Result<(), AllocError>
-        ensures state { KeepsButNames (state self.old) (state self.new) }
-        ensures names { IfOk result (λ u. IsNamed self.old (name_at self.old.declarations.items index) index self.new) }
-    {
-        let Some(named) = self.named(index) else {
-            return Ok(());
-        };
-        let name = self.word(named);
-        match self.expressions.names.get(&name).copied() {
-            Some(first) => {
-                self.expressions
-                    .tell_name(Rule::Duplicate, named, "is declared twice")?;
-                self.refer(first)
-            }
-            None => {
-                self.expressions.names.insert(name, index)?;
-                Ok(())
-            }
-        }
-    }
-
-    /// Gives a name this meaning, unless it has another one.
-    fn give(&mut self, name: &'t str, known: Known) -> Result<(), AllocError>
-        ensures state { KeepsButNames (state self.old) (state self.new) }
-        ensures names { KeepNames self.old self.new }
-    {
-        let index = self.expressions.declared.len();
-        self.expressions.declared.push(Named {
-            named: None,
-            known: Some(known),
-        })?;
-        if !self.expressions.names.contains_key(&name) {
-            self.expressions.names.insert(name, index)?;
-        }
-        Ok(())
     }
 }

@@ -17,7 +17,7 @@ returns-clause-module c =
       d.0,
       cycling c.in_ok-cycles.cycles.named.items,
       d.2,
-      (d.1, between, d.4, d.5, d.6, d.7, runs, d.3),
+      (d.1, between, d.4, d.5, d.6, d.7, runs, d.3, d.8),
       λ none. subst (λ cycles. cycling cycles ≡ []) c.deref-2.ensures.value (c.in_ok-tell_cycle.ensures.told none),
     )
 

@@ -1,11 +1,11 @@
-use Rattle.std.proofs.Common.{◌≡◌, ◌∙◌, ◌≤◌, ℕ, List, ap, arith, length, map, slice_get, subst, sym}
+use Rattle.std.proofs.Common.{◌≡◌, ◌∙◌, ◌≤◌, ◌++◌, ℕ, List, ap, arith, length, map, slice_get, subst, sym}
 use Rattle.std.proofs.lemmas.List.{length-map}
 use Rattle.wgsl_module.specs.Called.{called_by}
 use Rattle.wgsl_module.specs.Declarations.{written}
 use Rattle.wgsl_module.specs.Named.{first_called, named_by, named_from, naming}
 use Rattle.wgsl_module.specs.States.{source, state}
 use Rattle.wgsl_module.specs.Order.{HasEach, IsBehind, IsInTurn, cycling, leads_of}
-use Rattle.wgsl_module.specs.Runs.{AreDeclarations}
+use Rattle.wgsl_module.specs.Runs.{AreDeclarations, as_unread}
 use Rattle.wgsl_module.specs.declared.checker.Checker.{Checker}
 use Rattle.wgsl_module.specs.declared.declaration.Declaration.{Declaration}
 use Rattle.wgsl_module.specs.declared.walk.Link.TheVariants as links
@@ -49,6 +49,7 @@ returns-clause-declarations c =
     (all_named m c.in_ok-name_all.ensures.names) c.in_ok-named.ensures.behind in
     let turn = same_in_turn (leads_of m links.Name) (named_by (state m).stack.context (map written m.declarations.items)) 0 (length (map written ds)) order
     (all_named m c.in_ok-name_all.ensures.names) (subst (λ n. IsInTurn (leads_of m links.Name) 0 n order) all.0 (c.in_ok-named.ensures.in_turn all.1)) in
+    let more = c.in_ok-give_all.ensures.declared in
     let declared = subst (λ (q : Read). AreDeclarations c.args.tokens.now (map written q.2) c.deref.result.now before end) read c.in_ok-declare_in.ensures.declarations in (
       before,
       order,
@@ -60,6 +61,7 @@ returns-clause-declarations c =
       subst (Behind cycles order ds) (sym read) (subst (λ (q : Read). Behind cycles order q.2 q) named behind),
       subst (InTurn (length (map written ds)) order ds) (sym read) (subst (λ (q : Read). InTurn (length (map written ds)) order q.2 q) named turn),
       subst (λ o. AreDeclarations c.args.tokens.now (map written ds) o before end) c.deref.ensures.value declared,
+      (more.0, more.1 ∙ ap (λ ns. ns ++ more.0) (c.in_ok-name_all.ensures.declared ∙ ap (λ (q : Read). map as_unread (map written q.2)) named)),
     )
 
 pub returns-clause-calls : goal.returns-clause-calls
