@@ -6,15 +6,15 @@ mod uses;
 
 use crate::proved::wgsl_core::ty::show::ShownType;
 use crate::proved::wgsl_module::module::{check as checked, Checked as Found};
-use crate::proved::wgsl_typing::count::with_counts;
-use crate::proved::wgsl_typing::fault::Place;
-use crate::proved::wgsl_typing::known::{Known, Outcome, Typed};
 use crate::proved::wgsl_reader::token::Token;
 use crate::proved::wgsl_report::faults::explained;
 use crate::proved::wgsl_report::message::{write_misread, EXPLAINED};
 use crate::proved::wgsl_source::text::Text;
 use crate::proved::wgsl_standard::forms::form::Referent;
 use crate::proved::wgsl_syntax::rules::RuleSet;
+use crate::proved::wgsl_typing::count::with_counts;
+use crate::proved::wgsl_typing::fault::Place;
+use crate::proved::wgsl_typing::known::{Known, Outcome, Typed};
 use crate::shim::{always, std::alloc::Global};
 use crate::ty::Type;
 use alloc::string::{String, ToString};

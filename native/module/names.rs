@@ -2,9 +2,9 @@
 
 use super::{Checked, Rule, Stage};
 use crate::proved::wgsl_module::module::Checked as Found;
-use crate::proved::wgsl_typing::known::{Known, Typed};
 use crate::proved::wgsl_reader::{kind::Kind, token::Token};
 use crate::proved::wgsl_standard::operand::loaded;
+use crate::proved::wgsl_typing::known::{Known, Typed};
 use crate::ty::Type;
 use alloc::collections::{BTreeMap, BTreeSet};
 use alloc::string::String;

@@ -59,7 +59,7 @@ read_layers-returns-in-Some-scalar-clause-read t c =
     let named : scalar_named c.loop-layer.word.now ≡ Some c.in-Some-scalar.scalar = search rules in
     let inside : view c.from.result ≡ scalar c.in-Some-scalar.scalar = search rules in
     c.loop-layer.invariant.4 ∙ (ap (in_layers _) (ap (type_from type_at c.loop-layer.word.now) (sym same) ∙ scalar_found c.loop-layer.word.now c.read_next.new.words c.in-Some-scalar.scalar named)
-        ∙ ap (λ t. Some (t, c.read_next.new.words)) (ap (wrapped _) (sym inside) ∙ sym c.in_ok-wrap.ensures))
+    ∙ ap (λ t. Some (t, c.read_next.new.words)) (ap (wrapped _) (sym inside) ∙ sym c.in_ok-wrap.ensures))
 
 pub read_layers-returns-in_err-innermost-clause-read : goal.read_layers-returns-in_err-innermost-clause-read
 read_layers-returns-in_err-innermost-clause-read t c =
